@@ -1,0 +1,1 @@
+//! Theory: what nets mean, in definitions and theorems; see specs/.
