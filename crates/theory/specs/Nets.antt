@@ -25,3 +25,8 @@ pub record NetLaw (N : NetMeaning) : Type 0 where
   pub no-yield-outside-steps : (t p : ℕ) → N .steps ≤ t → N .yields t p ≡ 0
   pub no-yield-outside-places : (t p : ℕ) → N .places ≤ p → N .yields t p ≡ 0
   pub yields-something : (t : ℕ) → t < N .steps → (p : ℕ) × (0 < N .yields t p)
+
+-- a net within its limits
+pub record LawfulNet : Type 0 where
+  pub net : NetMeaning
+  pub law : NetLaw net

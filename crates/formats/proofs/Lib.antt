@@ -1,0 +1,5 @@
+pub mod Least
+mod Refused
+pub mod GridLaw
+pub mod Chains
+pub mod ChainedLaw

@@ -1,0 +1,1 @@
+//! File formats of nets: when a file is refused and what an accepted one means; see specs/.

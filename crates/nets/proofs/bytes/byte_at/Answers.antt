@@ -1,0 +1,7 @@
+use mathlib.Core.Path.{sym}
+use native.Mathlib.Omega.{arith}
+use Rattle.std.proofs.shelf.Lists.{getD-past}
+use Rattle.nets.proofs.bytes.byte_at.Needs as need
+
+pub returns-else-i-file : need.returns-else-i-file
+returns-else-i-file c = sym (getD-past (c .args .file .now) (c .args .i) 0 (omega arith))
