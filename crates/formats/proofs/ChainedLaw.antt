@@ -31,10 +31,10 @@ small-chain file bytes (suc n) a p =
     let here = bytes _ in
     either-small (eqb a 0) (eqb (arc-place file a) p) (arc-weight file a) (chain-yield file n (arc-next file a) p) here rest
   where
-  either-small : (v w : Bool) (x y : ℕ) → x ≤ 255 → y ≤ 255 → cond v 0 (cond w x y) ≤ 255
-  either-small true w x y h k = omega arith
-  either-small false true x y h k = h
-  either-small false false x y h k = k
+    either-small : (v w : Bool) (x y : ℕ) → x ≤ 255 → y ≤ 255 → cond v 0 (cond w x y) ≤ 255
+    either-small true w x y h k = omega arith
+    either-small false true x y h k = h
+    either-small false false x y h k = k
 
 -- what is known of an arc
 arc-inside : (file : List ℕ) → Arcs-fit file → (a : ℕ) → 0 < a → a ≤ chained-arcs file → (arc-place file a < chained-places file) × (0 < arc-weight file a) × (arc-next file a ≤ chained-arcs file)
@@ -44,10 +44,11 @@ arc-inside file fit a h k =
     let same : (a - 1) + 1 ≡ a = omega arith in
     let e = subst P same (fit (a - 1) (omega arith)) in
     let place = neither (leb (chained-places file) (arc-place file a)) (eqb (arc-weight file a) 0 || not (next-fits file a)) e in
-    let weight = neither (eqb (arc-weight file a) 0) (not (next-fits file a)) (place .1) in
-    (below (arc-place file a) (chained-places file) (place .0),
-     not-zero (arc-weight file a) (weight .0),
-     next-inside a (arc-next file a) (chained-arcs file) (arc-place file a) (arc-place file (arc-next file a)) (not-false (next-fits file a) (weight .1)))
+    let weight = neither (eqb (arc-weight file a) 0) (not (next-fits file a)) (place .1) in (
+      below (arc-place file a) (chained-places file) (place .0),
+      not-zero (arc-weight file a) (weight .0),
+      next-inside a (arc-next file a) (chained-arcs file) (arc-place file a) (arc-place file (arc-next file a)) (not-false (next-fits file a) (weight .1)),
+    )
 
 -- a chain yields nothing outside the net
 chain-outside : (file : List ℕ) → Arcs-fit file → (n a p : ℕ) → a ≤ chained-arcs file → chained-places file ≤ p → chain-yield file n a p ≡ 0
@@ -56,11 +57,11 @@ chain-outside file fit (suc n) a p h k =
     ⊎-elim
     (λ (e : a ≡ 0). chain-end file (suc n) a p e)
     (λ (ne : a ≡ 0 → ⊥).
-       let here = arc-inside file fit a (omega arith) h in
-       let less : suc n - 1 ≡ n = omega arith in
-       chain-next file (suc n) a p (omega arith) (omega arith) (λ e. omega (arith, here .0, e))
-       ∙ ap (λ z. chain-yield file z (arc-next file a) p) less
-       ∙ chain-outside file fit n (arc-next file a) p (here .2) k)
+    let here = arc-inside file fit a (omega arith) h in
+    let less : suc n - 1 ≡ n = omega arith in
+    chain-next file (suc n) a p (omega arith) (omega arith) (λ e. omega (arith, here .0, e))
+    ∙ ap (λ z. chain-yield file z (arc-next file a) p) less
+    ∙ chain-outside file fit n (arc-next file a) p (here .2) k)
     (cases-eq a 0)
 
 of-step : (t T y : ℕ) → t < T → cond (ltb t T) y 0 ≡ y
@@ -101,13 +102,13 @@ chained-lawful file bytes sound =
       yields-small = λ t p. of-either (ltb t T) (chain-yield file A (first-arc file t) p) (small-chain file bytes A (first-arc file t) p);
       no-yield-outside-steps = λ t p h. of-no-step t T (chain-yield file A (first-arc file t) p) h;
       no-yield-outside-places = λ t p h.
-        ⊎-elim
-        (λ (k : t < T). of-all (ltb t T) (chain-yield file A (first-arc file t) p) (chain-outside file fit A (first-arc file t) p (at-most (first-arc file t) A (tests t k .1)) h))
-        (λ (k : T ≤ t). of-no-step t T (chain-yield file A (first-arc file t) p) k)
-        (cases-lt t T);
+          ⊎-elim
+          (λ (k : t < T). of-all (ltb t T) (chain-yield file A (first-arc file t) p) (chain-outside file fit A (first-arc file t) p (at-most (first-arc file t) A (tests t k .1)) h))
+          (λ (k : T ≤ t). of-no-step t T (chain-yield file A (first-arc file t) p) k)
+          (cases-lt t T);
       yields-something = λ t h.
-        let a = first-arc file t in
-        let some = not-zero a (chain t h) in
-        let inside = at-most a A (tests t h .1) in
-        (arc-place file a, omega (arith, of-step t T (chain-yield file A a (arc-place file a)) h, chain-here file A a (arc-place file a) (omega arith) some refl, arc-inside file fit a some inside .1));
+          let a = first-arc file t in
+          let some = not-zero a (chain t h) in
+          let inside = at-most a A (tests t h .1) in
+          (arc-place file a, omega (arith, of-step t T (chain-yield file A a (arc-place file a)) h, chain-here file A a (arc-place file a) (omega arith) some refl, arc-inside file fit a some inside .1));
     }

@@ -44,6 +44,6 @@ grid-lawful file bytes sound =
       no-yield-outside-steps = λ t p h. outside-steps t p T P (grid-yield file t p) h;
       no-yield-outside-places = λ t p h. outside-places t p T P (grid-yield file t p) h;
       yields-something = λ t h.
-        let some = any-below-some (λ p. ltb 0 (grid-yield file t p)) P (not-false _ (least-fault-none (grid-yields-nothing file) T _ (yields .0) t h)) in
-        (some .0, omega (arith, positive (grid-yield file t (some .0)) (some .2), inside-yield t (some .0) T P (grid-yield file t (some .0)) h (some .1)));
+          let some = any-below-some (λ p. ltb 0 (grid-yield file t p)) P (not-false _ (least-fault-none (grid-yields-nothing file) T _ (yields .0) t h)) in
+          (some .0, omega (arith, positive (grid-yield file t (some .0)) (some .2), inside-yield t (some .0) T P (grid-yield file t (some .0)) h (some .1)));
     }

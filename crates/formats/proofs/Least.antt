@@ -31,9 +31,9 @@ least-some b zero t l e h = absurd (omega arith)
 least-some b (suc n) t l e h =
     ⊎-elim
     (λ (z : t ≡ n).
-       ap (λ o. orOther o (cond (b n) (Some n) None)) (least-none b n (λ k m. h k (omega arith)))
-       ∙ ap (λ v. cond v (Some n) None) (ap b (omega arith) ∙ e)
-       ∙ ap Some (omega arith))
+    ap (λ o. orOther o (cond (b n) (Some n) None)) (least-none b n (λ k m. h k (omega arith)))
+    ∙ ap (λ v. cond v (Some n) None) (ap b (omega arith) ∙ e)
+    ∙ ap Some (omega arith))
     (λ (ne : t ≡ n → ⊥). ap (λ o. orOther o (cond (b n) (Some n) None)) (least-some b n t (omega arith) e h))
     (cases-eq t n)
 
@@ -70,6 +70,6 @@ any-below-some b zero e = absurd (true≢false (sym e))
 any-below-some b (suc n) e =
     let P : Bool → Type 0 = λ v. b n ≡ v → (k : ℕ) × (k < suc n) × (b k ≡ true) in
     elim (b n) as P [
-      true ↦ λ h. (n, omega arith, h)
-    | false ↦ λ h. let r = any-below-some b n (ap (λ v. v || any-below b n) (sym h) ∙ e) in (r .0, omega (arith, r .1), r .2)
+      | true ↦ λ h. (n, omega arith, h)
+      | false ↦ λ h. let r = any-below-some b n (ap (λ v. v || any-below b n) (sym h) ∙ e) in (r .0, omega (arith, r .1), r .2)
     ] refl

@@ -25,9 +25,13 @@ pub struct ChainedNet<'a> {
 }
 
 const HEAD: usize = 4;
+
 const MOST_PLACES: u8 = 64;
+
 const MOST_STEPS: u8 = 128;
+
 const MOST_ARCS: u16 = 1023;
+
 const ONE_PLACE: [u8; 4] = [1, 0, 0, 0];
 
 /// How many arcs there are.
@@ -78,7 +82,8 @@ fn next_fits(file: &[u8], arc: u32) -> bool
     ensures { λ r. ⌜ r ≡ next-fits (now (file .entry)) arc ⌝ }
 {
     let next = next_of(file, arc) as u32;
-    next == 0 || (arc < next && next <= arcs(file) as u32 && place_of(file, arc) < place_of(file, next))
+    next == 0
+        || (arc < next && next <= arcs(file) as u32 && place_of(file, arc) < place_of(file, next))
 }
 
 /// A step whose input is no place of the net, or whose first arc is no arc.
@@ -103,7 +108,9 @@ impl Fault for ArcUnfit<'_> as ArcUnfitFault {
 
     fn is_at(&self, number: u16) -> bool {
         let arc = number as u32 + 1;
-        place_of(self.0, arc) >= byte_at(self.0, 0) || weight_of(self.0, arc) == 0 || !next_fits(self.0, arc)
+        place_of(self.0, arc) >= byte_at(self.0, 0)
+            || weight_of(self.0, arc) == 0
+            || !next_fits(self.0, arc)
     }
 }
 

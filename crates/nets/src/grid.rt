@@ -24,8 +24,11 @@ pub struct GridNet<'a> {
 }
 
 const HEAD: usize = 2;
+
 const MOST_PLACES: u8 = 64;
+
 const MOST_STEPS: u8 = 128;
+
 const ONE_PLACE: [u8; 2] = [1, 0];
 
 /// A step whose input is no place of the net.

@@ -4,3 +4,5 @@ pub mod chained;
 mod faults;
 pub mod grid;
 pub mod net;
+#[cfg(test)]
+mod tests;
