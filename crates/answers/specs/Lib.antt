@@ -1,0 +1,6 @@
+pub mod States
+pub mod Answers
+pub mod Findings
+pub mod Calls
+pub mod Reasons
+pub mod Promise
