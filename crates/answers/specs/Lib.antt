@@ -4,3 +4,4 @@ pub mod Findings
 pub mod Calls
 pub mod Reasons
 pub mod Promise
+pub mod Cases

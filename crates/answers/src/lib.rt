@@ -1,4 +1,5 @@
 //! Answers: what fire, resume and survey answer and leave, as definitions, and the promise over them.
+ghost use Rattle.answers.specs.Cases.{Cases-hold};
 ghost use Rattle.answers.specs.Findings.{numberOf};
 ghost use Rattle.answers.specs.Promise.{Promise};
 ghost use mathlib.Core.Path.{_≡_};
@@ -38,6 +39,14 @@ impl Cause {
 pub fn promise_stands() -> u8
     ensures answer { λ r. ⌜ r ≡ 0 ⌝ }
     ensures promise { λ _. ⌜ Promise ⌝ }
+{
+    0
+}
+
+/// The worked cases come out as worked out by hand.
+pub fn worked_cases() -> u8
+    ensures answer { λ r. ⌜ r ≡ 0 ⌝ }
+    ensures hold { λ _. ⌜ Cases-hold ⌝ }
 {
     0
 }
