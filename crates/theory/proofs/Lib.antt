@@ -1,1 +1,9 @@
 pub mod SumLaws
+pub mod TallySums
+pub mod Realized
+pub mod SafeSteps
+pub mod ReachRounds
+pub mod Decided
+pub mod FirstOrder
+pub mod Appended
+pub mod Exchanging

@@ -1,3 +1,9 @@
 pub mod Sums
 pub mod Nets
+pub mod Rows
+pub mod Firing
+pub mod Tallies
+pub mod Orders
 pub mod Tests
+pub mod Laws
+pub mod Cases

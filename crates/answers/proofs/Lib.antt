@@ -1,0 +1,9 @@
+pub mod Options
+pub mod Sizes
+pub mod Missed
+pub mod Resumes
+pub mod Leading
+pub mod AsFires
+pub mod Surveys
+pub mod Histories
+pub mod Promised

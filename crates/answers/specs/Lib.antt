@@ -1,0 +1,7 @@
+pub mod States
+pub mod Answers
+pub mod Findings
+pub mod Calls
+pub mod Reasons
+pub mod Promise
+pub mod Cases
