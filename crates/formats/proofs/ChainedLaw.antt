@@ -14,7 +14,7 @@ use Rattle.theory.specs.Nets.{NetLaw}
 use Rattle.formats.specs.Chained.{chained-places, chained-steps, chained-arcs, chained-input, first-arc, arc-place, arc-weight, arc-next, chained-step-unfit, next-fits, arc-unfit, chain-empty, chain-yield, chained-head-refusal, chained-rows-refusal, chained-refusal, chained-net}
 use Rattle.formats.proofs.Chains.{chain-end, chain-here, chain-next}
 use Rattle.formats.proofs.Least.{none-of-two, none-of-test}
-use Rattle.formats.proofs.Refused.{least-fault-none, places-in-range, at-most, below, not-zero, not-false, neither}
+use Rattle.formats.proofs.Refused.{least-fault-none, places-in-range, at-most, below, not-zero, not-false, neither, of-step, of-no-step}
 
 -- each arc is fit
 Arcs-fit : List ℕ → Type 0
@@ -64,12 +64,6 @@ chain-outside file fit (suc n) a p h k =
     ∙ chain-outside file fit n (arc-next file a) p (here .2) k)
     (cases-eq a 0)
 
-of-step : (t T y : ℕ) → t < T → cond (ltb t T) y 0 ≡ y
-of-step t T y h = grind (arith, tells)
-
-of-no-step : (t T y : ℕ) → T ≤ t → cond (ltb t T) y 0 ≡ 0
-of-no-step t T y h = grind (arith, tells)
-
 of-either : (v : Bool) (y : ℕ) → y ≤ 255 → cond v y 0 ≤ 255
 of-either true y h = h
 of-either false y h = omega arith
@@ -98,7 +92,8 @@ chained-lawful file bytes sound =
       some-place = range .0;
       few-places = range .1;
       few-steps = at-most T 128 (sizes .0);
-      inputs-inside = λ t h. below (chained-input file t) P (tests t h .0);
+      inputs-inside = λ t h. omega (arith, below (chained-input file t) P (tests t h .0), of-step t T (chained-input file t) h);
+      no-input-outside-steps = λ t h. of-no-step t T (chained-input file t) h;
       yields-small = λ t p. of-either (ltb t T) (chain-yield file A (first-arc file t) p) (small-chain file bytes A (first-arc file t) p);
       no-yield-outside-steps = λ t p h. of-no-step t T (chain-yield file A (first-arc file t) p) h;
       no-yield-outside-places = λ t p h.

@@ -11,7 +11,7 @@ use Rattle.std.proofs.shelf.Ways.{tells}
 use Rattle.theory.specs.Nets.{NetLaw}
 use Rattle.formats.specs.Grid.{grid-places, grid-steps, grid-input, grid-yield, grid-input-outside, grid-yields-nothing, grid-head-refusal, grid-rows-refusal, grid-refusal, grid-net}
 use Rattle.formats.proofs.Least.{none-of-two, none-of-test, any-below-some}
-use Rattle.formats.proofs.Refused.{least-fault-none, places-in-range, at-most, below, positive, not-false}
+use Rattle.formats.proofs.Refused.{least-fault-none, places-in-range, at-most, below, positive, not-false, of-step, of-no-step}
 
 inside-yield : (t p T P y : ℕ) → t < T → p < P → cond (ltb t T && ltb p P) y 0 ≡ y
 inside-yield t p T P y h k = grind (arith, tells)
@@ -39,7 +39,8 @@ grid-lawful file bytes sound =
       some-place = range .0;
       few-places = range .1;
       few-steps = at-most T 128 (none-of-test _ _ (steps .0));
-      inputs-inside = λ t h. below (grid-input file t) P (least-fault-none (grid-input-outside file) T _ (rows .0) t h);
+      inputs-inside = λ t h. omega (arith, below (grid-input file t) P (least-fault-none (grid-input-outside file) T _ (rows .0) t h), of-step t T (grid-input file t) h);
+      no-input-outside-steps = λ t h. of-no-step t T (grid-input file t) h;
       yields-small = λ t p. small-yield t p T P (grid-yield file t p) (bytes _);
       no-yield-outside-steps = λ t p h. outside-steps t p T P (grid-yield file t p) h;
       no-yield-outside-places = λ t p h. outside-places t p T P (grid-yield file t p) h;

@@ -43,3 +43,10 @@ not-false false e = sym e
 pub neither : (a b : Bool) → (a || b) ≡ false → (a ≡ false) × (b ≡ false)
 neither true b e = absurd (true≢false e)
 neither false b e = (refl, e)
+
+-- the number of a step of the net, and 0 for any other
+pub of-step : (t T y : ℕ) → t < T → cond (ltb t T) y 0 ≡ y
+of-step t T y h = grind (arith, tells)
+
+pub of-no-step : (t T y : ℕ) → T ≤ t → cond (ltb t T) y 0 ≡ 0
+of-no-step t T y h = grind (arith, tells)

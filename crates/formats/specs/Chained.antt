@@ -95,6 +95,6 @@ abbrev pub chained-net : List ℕ → NetMeaning
 chained-net file = record {
   places = chained-places file;
   steps = chained-steps file;
-  input = chained-input file;
+  input = λ t. cond (ltb t (chained-steps file)) (chained-input file t) 0;
   yields = λ t p. cond (ltb t (chained-steps file)) (chain-yield file (chained-arcs file) (first-arc file t) p) 0;
 }

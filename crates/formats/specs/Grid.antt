@@ -63,6 +63,6 @@ abbrev pub grid-net : List ℕ → NetMeaning
 grid-net file = record {
   places = grid-places file;
   steps = grid-steps file;
-  input = grid-input file;
+  input = λ t. cond (ltb t (grid-steps file)) (grid-input file t) 0;
   yields = λ t p. cond (ltb t (grid-steps file) && ltb p (grid-places file)) (grid-yield file t p) 0;
 }

@@ -15,12 +15,14 @@ pub record NetMeaning : Type 0 where
 abbrev pub Inputs-inside : NetMeaning → Type 0
 Inputs-inside N = (t : ℕ) → t < N .steps → N .input t < N .places
 
--- the limits that every net keeps to
+-- the limits that every net keeps to; outside the net all numbers are 0, so that nets with the same
+-- answers have the same meaning
 pub record NetLaw (N : NetMeaning) : Type 0 where
   pub some-place : 1 ≤ N .places
   pub few-places : N .places ≤ 64
   pub few-steps : N .steps ≤ 128
   pub inputs-inside : Inputs-inside N
+  pub no-input-outside-steps : (t : ℕ) → N .steps ≤ t → N .input t ≡ 0
   pub yields-small : (t p : ℕ) → N .yields t p ≤ 255
   pub no-yield-outside-steps : (t p : ℕ) → N .steps ≤ t → N .yields t p ≡ 0
   pub no-yield-outside-places : (t p : ℕ) → N .places ≤ p → N .yields t p ≡ 0
