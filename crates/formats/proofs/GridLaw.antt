@@ -10,7 +10,7 @@ use Rattle.std.specs.Options.{isSome}
 use Rattle.std.proofs.shelf.Ways.{tells}
 use Rattle.theory.specs.Nets.{NetLaw}
 use Rattle.formats.specs.Grid.{grid-places, grid-steps, grid-input, grid-yield, grid-input-outside, grid-yields-nothing, grid-head-refusal, grid-rows-refusal, grid-refusal, grid-net}
-use Rattle.formats.proofs.Least.{none-of-two, none-of-test, any-below-some}
+use Rattle.searches.proofs.Least.{none-of-two, none-of-test, any-below-some}
 use Rattle.formats.proofs.Refused.{least-fault-none, places-in-range, at-most, below, positive, not-false, of-step, of-no-step}
 
 inside-yield : (t p T P y : ℕ) → t < T → p < P → cond (ltb t T && ltb p P) y 0 ≡ y

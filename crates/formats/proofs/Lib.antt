@@ -1,4 +1,3 @@
-pub mod Least
 mod Refused
 pub mod GridLaw
 pub mod Chains

@@ -11,7 +11,7 @@ use Rattle.std.proofs.shelf.Ways.{tells}
 use Rattle.refusals.specs.declared.Refusal.{Refusal}
 use Rattle.theory.specs.Tests.{least}
 use Rattle.formats.specs.Checks.{least-fault}
-use Rattle.formats.proofs.Least.{least-none-all}
+use Rattle.searches.proofs.Least.{least-none-all}
 
 none-mapped : (e : ℕ → Refusal) (o : Option ℕ) → isSome (mapped e o) ≡ false → isSome o ≡ false
 none-mapped e None h = refl

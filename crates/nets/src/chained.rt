@@ -11,10 +11,10 @@ ghost use mathlib.Core.Bool.{false, cond};
 ghost use mathlib.Core.Path.{_≡_};
 use crate::bytes::byte_at;
 use crate::bytes::pair_at;
-use crate::faults::Fault;
-use crate::faults::least_fault;
 use crate::net::Net;
 use refusals::Refusal;
+use searches::Test;
+use searches::least_below;
 
 /// A net that answers from the bytes of a chained file, which it borrows.
 #[derive(Clone, Copy)]
@@ -90,10 +90,10 @@ fn next_fits(file: &[u8], arc: u32) -> bool
 #[derive(Drop)]
 struct StepUnfit<'a>(&'a [u8]);
 
-impl Fault for StepUnfit<'_> as StepUnfitFault {
-    ghost faulty = { λ f. chained-step-unfit (now (f .0)) };
+impl Test for StepUnfit<'_> as StepUnfitTest {
+    ghost passes = { λ f. chained-step-unfit (now (f .0)) };
 
-    fn is_at(&self, number: u16) -> bool {
+    fn test(&self, number: u16) -> bool {
         let input = byte_at(self.0, HEAD + 3 * number as usize);
         input >= byte_at(self.0, 0) || first_arc(self.0, number) > arcs(self.0)
     }
@@ -103,10 +103,10 @@ impl Fault for StepUnfit<'_> as StepUnfitFault {
 #[derive(Drop)]
 struct ArcUnfit<'a>(&'a [u8]);
 
-impl Fault for ArcUnfit<'_> as ArcUnfitFault {
-    ghost faulty = { λ f k. arc-unfit (now (f .0)) (k + 1) };
+impl Test for ArcUnfit<'_> as ArcUnfitTest {
+    ghost passes = { λ f k. arc-unfit (now (f .0)) (k + 1) };
 
-    fn is_at(&self, number: u16) -> bool {
+    fn test(&self, number: u16) -> bool {
         let arc = number as u32 + 1;
         place_of(self.0, arc) >= byte_at(self.0, 0)
             || weight_of(self.0, arc) == 0
@@ -118,10 +118,10 @@ impl Fault for ArcUnfit<'_> as ArcUnfitFault {
 #[derive(Drop)]
 struct ChainEmpty<'a>(&'a [u8]);
 
-impl Fault for ChainEmpty<'_> as ChainEmptyFault {
-    ghost faulty = { λ f. chain-empty (now (f .0)) };
+impl Test for ChainEmpty<'_> as ChainEmptyTest {
+    ghost passes = { λ f. chain-empty (now (f .0)) };
 
-    fn is_at(&self, number: u16) -> bool {
+    fn test(&self, number: u16) -> bool {
         first_arc(self.0, number) == 0
     }
 }
@@ -152,13 +152,13 @@ fn check_rows(file: &[u8]) -> Result<(), Refusal>
     ensures { λ r. ⌜ r ≡ answer (chained-rows-refusal (now (file .entry))) ⌝ }
 {
     let steps = byte_at(file, 1) as u16;
-    if let Some(step) = least_fault(&StepUnfit(file), steps) {
+    if let Some(step) = least_below(&StepUnfit(file), steps) {
         return Err(Refusal::StepUnfit(step));
     }
-    if let Some(number) = least_fault(&ArcUnfit(file), arcs(file)) {
+    if let Some(number) = least_below(&ArcUnfit(file), arcs(file)) {
         return Err(Refusal::ArcUnfit(number + 1));
     }
-    if let Some(step) = least_fault(&ChainEmpty(file), steps) {
+    if let Some(step) = least_below(&ChainEmpty(file), steps) {
         return Err(Refusal::StepWithoutYield(step));
     }
     Ok(())

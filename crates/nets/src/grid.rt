@@ -10,10 +10,10 @@ ghost use lib.ListN.{getD};
 ghost use mathlib.Core.Bool.{false, cond};
 ghost use mathlib.Core.Path.{_≡_};
 use crate::bytes::byte_at;
-use crate::faults::Fault;
-use crate::faults::least_fault;
 use crate::net::Net;
 use refusals::Refusal;
+use searches::Test;
+use searches::least_below;
 
 /// A net that answers from the bytes of a grid file, which it borrows.
 #[derive(Clone, Copy)]
@@ -53,18 +53,18 @@ fn yield_of(file: &[u8], step: u16, place: u8) -> u8
     byte_at(file, row_of(file, step) + 1 + place as usize)
 }
 
-impl Fault for InputOutside<'_> as InputOutsideFault {
-    ghost faulty = { λ f. grid-input-outside (now (f .0)) };
+impl Test for InputOutside<'_> as InputOutsideTest {
+    ghost passes = { λ f. grid-input-outside (now (f .0)) };
 
-    fn is_at(&self, number: u16) -> bool {
+    fn test(&self, number: u16) -> bool {
         byte_at(self.0, row_of(self.0, number)) >= byte_at(self.0, 0)
     }
 }
 
-impl Fault for YieldsNothing<'_> as YieldsNothingFault {
-    ghost faulty = { λ f. grid-yields-nothing (now (f .0)) };
+impl Test for YieldsNothing<'_> as YieldsNothingTest {
+    ghost passes = { λ f. grid-yields-nothing (now (f .0)) };
 
-    fn is_at(&self, number: u16) -> bool {
+    fn test(&self, number: u16) -> bool {
         for place in 0..byte_at(self.0, 0) {
             if yield_of(self.0, number, place) > 0 {
                 return false;
@@ -100,10 +100,10 @@ fn check_rows(file: &[u8]) -> Result<(), Refusal>
     ensures { λ r. ⌜ r ≡ answer (grid-rows-refusal (now (file .entry))) ⌝ }
 {
     let steps = byte_at(file, 1) as u16;
-    if let Some(step) = least_fault(&InputOutside(file), steps) {
+    if let Some(step) = least_below(&InputOutside(file), steps) {
         return Err(Refusal::StepUnfit(step));
     }
-    if let Some(step) = least_fault(&YieldsNothing(file), steps) {
+    if let Some(step) = least_below(&YieldsNothing(file), steps) {
         return Err(Refusal::StepWithoutYield(step));
     }
     Ok(())

@@ -3,7 +3,7 @@ use lib.Dec.{ltb}
 use mathlib.Core.Bool.{false}
 use mathlib.Core.Path.{_≡_}
 use Rattle.formats.specs.Grid.{grid-yield}
-use Rattle.nets.proofs.grid.YieldsNothingFault.is_at.Given as given
+use Rattle.nets.proofs.grid.YieldsNothingTest.test.Given as given
 
 -- no place so far has a yield
 abbrev pub Inv-loop-place : given.InvT-loop-place

@@ -5,8 +5,8 @@ use native.Mathlib.Omega.{arith}
 use lib.Dec.{ltb}
 use Rattle.std.proofs.shelf.Tests.{lt-ltb}
 use Rattle.formats.specs.Grid.{grid-places, grid-yield}
-use Rattle.formats.proofs.Least.{any-below-none, any-below-at}
-use Rattle.nets.proofs.grid.YieldsNothingFault.is_at.Needs as need
+use Rattle.searches.proofs.Least.{any-below-none, any-below-at}
+use Rattle.nets.proofs.grid.YieldsNothingTest.test.Needs as need
 
 pub returns : need.returns
 returns c =
