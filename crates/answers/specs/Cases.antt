@@ -197,6 +197,11 @@ three-groups-by-rising-place =
     lists detour (0 ∷ 0 ∷ 0 ∷ []) (survey (1 ∷ 1 ∷ 1 ∷ []) (exact (0 ∷ 0 ∷ 3 ∷ [])) 192) nothing-done
     (short 0 0 ∷ cut-off 0 ∷ cut-off 1 ∷ cut-off 2 ∷ missed 0 0 ∷ missed 2 1 ∷ [])
 
+abbrev pub missed-from-above : Case
+missed-from-above =
+    lists detour (2 ∷ 0 ∷ 0 ∷ []) (survey (1 ∷ 1 ∷ 1 ∷ []) (exact (0 ∷ 0 ∷ 1 ∷ [])) 192) nothing-done
+    (record { place = 0; cause = cause.Missed (pos 1) } ∷ [])
+
 abbrev pub nothing-to-find : Case
 nothing-to-find =
     lists detour (1 ∷ 0 ∷ 0 ∷ []) (survey (1 ∷ 1 ∷ 1 ∷ []) (exact (0 ∷ 0 ∷ 1 ∷ [])) 192) nothing-done []
@@ -229,6 +234,7 @@ cases =
     ∷ no-room-for-the-yields
     ∷ findings-memory-of-191
     ∷ three-groups-by-rising-place
+    ∷ missed-from-above
     ∷ nothing-to-find
     ∷ []
 
