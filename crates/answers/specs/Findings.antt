@@ -59,6 +59,7 @@ survey-checks N s tally target memory =
     ∷ (ltb memory findings-needed, ListFull)
     ∷ []
 
+-- why a survey is refused, if it is
 abbrev pub survey-refusal : NetMeaning → State → List ℕ → Target → ℕ → Option Refusal
 survey-refusal N s tally target memory = first-wrong (survey-checks N s tally target memory)
 

@@ -63,6 +63,7 @@ pub record As-fires (N : NetMeaning) (s : State) (tally : List ℕ) (target : Ta
 
 -- WHAT HOLDS IN ANY STATE
 
+-- whatever a sitting holds
 pub record In-any-state (N : NetMeaning) (s : State) : Type 0 where
   -- fire is accepted exactly if its four conditions hold, and is refused for the first that fails
   pub fires-exactly : (t : ℕ) → (fire-refusal N s t ≡ None) ↔ Fire-fits N s t
@@ -142,6 +143,7 @@ pub record Replayed (N : NetMeaning) (start now other : State) (tally numbers : 
   pub spare : after-call N other (resume tally (record { numbers = numbers; kind = 0 }) memory) .spare + start .spare ≡ now .spare + other .spare
   pub done : (t : ℕ) → after-call N other (resume tally (record { numbers = numbers; kind = 0 }) memory) .done t ≡ now .done t
 
+-- whatever calls were made on a new sitting, refused ones included
 pub record After-calls (N : NetMeaning) (start : State) (calls : List Call) : Type 0 where
   -- each step's done count is its accepted fires and its numbers in the tallies that resume accepted
   pub counts-accepted-work : (t : ℕ) → after-calls N start calls .done t ≡ accepted-times N start calls t

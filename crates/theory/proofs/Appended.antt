@@ -22,7 +22,7 @@ use Rattle.theory.proofs.Realized.{leaves, length-is}
 -- FINAL NUMBERS
 
 -- differences are the same where the cross sums are
-same-difference : (a b c d : ℕ) → a + d ≡ c + b → pos a -ℤ pos b ≡ pos c -ℤ pos d
+pub same-difference : (a b c d : ℕ) → a + d ≡ c + b → pos a -ℤ pos b ≡ pos c -ℤ pos d
 same-difference a b c d e = omega (arith, ints)
 
 pub ends-at-final-numbers : Ends-at-final-numbers
