@@ -1,8 +1,8 @@
 -- The promise.
 use mathlib.Core.Path.{_≡_, refl, ap, subst, sym, _∙_}
-use mathlib.Core.List.{List, [], _∷_, _++_}
-use mathlib.Core.Logic.{_⊎_, _↔_, inl, inr}
-use Prim.Native.Nat.{ℕ, zero, suc, _+_, _-_, _*_, _<_, _≤_}
+use mathlib.Core.List.{List, []}
+use mathlib.Core.Logic.{inl, inr}
+use Prim.Native.Nat.{ℕ, _+_, _-_, _*_, _<_, _≤_}
 use native.Mathlib.Omega.{arith}
 use lib.ListN.{length, drop, length-append, length-drop}
 use lib.Seq.{take-append-seam, drop-append-seam}
@@ -13,24 +13,24 @@ use Rattle.refusals.specs.declared.Refusal.{Refusal}
 use Rattle.theory.specs.Sums.{sumTo}
 use Rattle.theory.specs.Nets.{NetMeaning, NetLaw}
 use Rattle.theory.specs.Rows.{at}
-use Rattle.theory.specs.Firing.{Marking, one-at, after}
-use Rattle.theory.specs.Tallies.{Tally, steps-asked, Realizes}
+use Rattle.theory.specs.Firing.{one-at, after}
+use Rattle.theory.specs.Tallies.{steps-asked, Realizes}
 use Rattle.theory.proofs.SumLaws.{sumTo-same, sumTo-none}
 use Rattle.theory.proofs.Realized.{leaves, length-is}
 use Rattle.theory.proofs.Decided.{some-none}
 use Rattle.theory.proofs.Exchanging.{agreeing-exchanged}
-use Rattle.answers.specs.States.{State, New, Target, done-total, done-limit, yields-of, yields-asked}
-use Rattle.answers.specs.Answers.{answered, unless, written, fire-refusal, size-refusal, resume-refusal, the-order, after-resume}
+use Rattle.answers.specs.States.{State, New, Target, exact, done-total, done-limit, yields-of, yields-asked}
+use Rattle.answers.specs.Answers.{answered, unless, written, fire-refusal, resume-refusal, the-order, after-resume}
 use Rattle.answers.specs.Findings.{survey-refusal, findings}
 use Rattle.answers.specs.Calls.{Call, refusal-of, order-of, fired-by, after-call, accepted-answer, said, answer-to, after-calls, history, yields-in}
 use Rattle.answers.specs.Calls.Call.{fire, resume, survey}
 use Rattle.answers.specs.Promise.{Leads, Says, Writes, In-any-state, Hand-over, Replayed, After-calls, Promise}
-use Rattle.answers.proofs.Sizes.{fire-fits, fits-fire, why-fire, fire-why, size-fits, fits-size, survey-fits, fits-survey, why-survey, survey-why}
+use Rattle.answers.proofs.Sizes.{fire-fits, fits-fire, why-fire, fire-why, size-fits, survey-fits, fits-survey, why-survey, survey-why}
 use Rattle.answers.proofs.Resumes.{fits-now, such-now, later-now, long-now, accepts, why-resume, resume-why}
 use Rattle.answers.proofs.Leading.{at-past, yields-is, call-leads}
 use Rattle.answers.proofs.AsFires.{resume-as-fires}
 use Rattle.answers.proofs.Surveys.{finds-all, few-findings}
-use Rattle.answers.proofs.Histories.{calls-lead, calls-done, Within, new-within, calls-within, asked-is, sum-past, blocks-stay, outside-stays}
+use Rattle.answers.proofs.Histories.{calls-lead, calls-done, Within, new-within, calls-within, sum-past, blocks-stay, outside-stays}
 
 -- IN ANY STATE
 
@@ -149,7 +149,7 @@ module _ (N : NetMeaning) (law : NetLaw N) (start : State) (new : New start) (ca
 
   module _ (other : State) (tally numbers : List ℕ) (memory : ℕ) (given : Hand-over N start end other tally numbers memory) where
     abbrev target : Target
-    target = record { numbers = numbers; kind = 0 }
+    target = exact numbers
 
     tally-is : (t : ℕ) → at tally t ≡ end .done t
     tally-is t =

@@ -10,7 +10,7 @@ use Rattle.theory.specs.Rows.{at, row-of}
 use Rattle.theory.specs.Cases.{detour, doubler, lock}
 use Rattle.answers.specs.declared.Cause.the-variants as cause
 use Rattle.answers.specs.declared.Finding.{Finding}
-use Rattle.answers.specs.States.{State, Target}
+use Rattle.answers.specs.States.{State, exact, at-least}
 use Rattle.answers.specs.Calls.{Call, Answer, answer-to, after-call}
 use Rattle.answers.specs.Calls.Call.{fire, resume, survey}
 use Rattle.answers.specs.Calls.Answer.{refused, fired-once, order-written, findings-listed}
@@ -40,13 +40,6 @@ outcome c = record {
   spare = after-call (c .net) (before c) (c .call) .spare;
   done = row-of (after-call (c .net) (before c) (c .call) .done) (c .net .steps);
 }
-
--- exact numbers, or at least these
-abbrev pub exact : List ℕ → Target
-exact numbers = record { numbers = numbers; kind = 0 }
-
-abbrev pub at-least : List ℕ → Target
-at-least numbers = record { numbers = numbers; kind = 1 }
 
 -- a call on a sitting that has done these steps, with this spare, at these counts; refused, so that all stays
 abbrev pub says-no : NetMeaning → List ℕ → ℕ → List ℕ → Call → Refusal → Case

@@ -17,7 +17,7 @@ use Rattle.theory.specs.Tallies.{steps-asked, Realizes}
 use Rattle.theory.specs.Orders.{Earlier}
 use Rattle.theory.specs.Laws.{Agree-below}
 use Rattle.answers.specs.declared.Finding.{Finding}
-use Rattle.answers.specs.States.{State, New, Target, done-total, done-limit, yields-asked}
+use Rattle.answers.specs.States.{State, New, Target, exact, done-total, done-limit, yields-asked}
 use Rattle.answers.specs.Answers.{fire-refusal, fire-answer, size-refusal, resume-refusal, the-order, resume-answer, order-memory}
 use Rattle.answers.specs.Findings.{findings, survey-refusal, survey-answer, findings-memory}
 use Rattle.answers.specs.Calls.{Call, refusal-of, fired-by, after-call, answer-to, after-calls, history, accepted-times, fires, yields-in}
@@ -138,10 +138,10 @@ pub record Hand-over (N : NetMeaning) (start now other : State) (tally numbers :
 
 -- its resume accepts and ends at that marking, with that done row, the spare differing as it did
 pub record Replayed (N : NetMeaning) (start now other : State) (tally numbers : List ℕ) (memory : ℕ) : Type 0 where
-  pub accepted : resume-refusal N other tally (record { numbers = numbers; kind = 0 }) memory ≡ None
-  pub counts : Agree-below (N .places) (after-call N other (resume tally (record { numbers = numbers; kind = 0 }) memory) .counts) (now .counts)
-  pub spare : after-call N other (resume tally (record { numbers = numbers; kind = 0 }) memory) .spare + start .spare ≡ now .spare + other .spare
-  pub done : (t : ℕ) → after-call N other (resume tally (record { numbers = numbers; kind = 0 }) memory) .done t ≡ now .done t
+  pub accepted : resume-refusal N other tally (exact numbers) memory ≡ None
+  pub counts : Agree-below (N .places) (after-call N other (resume tally (exact numbers) memory) .counts) (now .counts)
+  pub spare : after-call N other (resume tally (exact numbers) memory) .spare + start .spare ≡ now .spare + other .spare
+  pub done : (t : ℕ) → after-call N other (resume tally (exact numbers) memory) .done t ≡ now .done t
 
 -- whatever calls were made on a new sitting, refused ones included
 pub record After-calls (N : NetMeaning) (start : State) (calls : List Call) : Type 0 where

@@ -1,19 +1,16 @@
 -- Choosing the least safe step each time gives the first order, and the computed order does so.
 use mathlib.Core.Path.{_≡_, refl, ap, subst, sym}
 use mathlib.Core.List.{List, [], _∷_}
-use mathlib.Core.Bool.{true, false}
 use mathlib.Core.Logic.{_⊎_, inl, inr}
-use Prim.Native.Nat.{ℕ, zero, suc, _+_, _-_, _<_, _≤_}
+use Prim.Native.Nat.{ℕ, zero, suc, _-_}
 use native.Mathlib.Omega.{arith}
-use lib.ListN.{length}
 use Rattle.std.specs.declared.option.Option.{Option}
 use Rattle.std.specs.declared.option.Option.the-variants.{Some, None}
 use Rattle.std.proofs.shelf.Tests.{cases-order, both-ways}
-use Rattle.theory.specs.Sums.{sumTo}
 use Rattle.theory.specs.Nets.{NetMeaning, Inputs-inside}
 use Rattle.theory.specs.Firing.{Marking, fired}
 use Rattle.theory.specs.Tallies.{Tally, steps-asked, Realizes, Realizable, No-place-short, No-place-cut-off}
-use Rattle.theory.specs.Orders.{Earlier, First, less, Safe, Least-safe-each-time}
+use Rattle.theory.specs.Orders.{Earlier, less, Safe, Least-safe-each-time}
 use Rattle.theory.specs.Tests.{least, safe, followed, first-steps, first-order}
 use Rattle.theory.specs.Laws.{Least-safe-is-first, Computed-is-least-safe, Computed-is-first, First-is-one, First-order-goes-on, First-order-ends, Earlier-one-way, Earlier-goes-on, Earlier-compares}
 use Rattle.theory.proofs.SumLaws.{le-sumTo, sumTo-none}

@@ -1,18 +1,18 @@
 -- A step is safe by what happens at its input place, and any closed set of reached places has them all.
-use mathlib.Core.Path.{_≡_, refl, subst, sym}
-use mathlib.Core.Bool.{Bool, true, false, _&&_}
+use mathlib.Core.Path.{_≡_, subst, sym}
+use mathlib.Core.Bool.{Bool, _&&_}
 use mathlib.Core.Logic.{_⊎_, inl, inr}
-use Prim.Native.Nat.{ℕ, _+_, _-_, _*_, _<_, _≤_}
+use Prim.Native.Nat.{ℕ, _+_, _-_, _<_}
 use native.Mathlib.Omega.{arith}
 use lib.Dec.{eqb, ltb}
-use Rattle.std.proofs.shelf.Tests.{cases-bool, both-ways}
+use Rattle.std.proofs.shelf.Tests.{cases-bool}
 use Rattle.std.proofs.shelf.Ways.{decides-and, decides-ltb, decides-eqb, same-from-decides, not-from-decides}
-use Rattle.theory.specs.Nets.{NetMeaning, Inputs-inside}
+use Rattle.theory.specs.Nets.{NetMeaning}
 use Rattle.theory.specs.Firing.{Marking, one-at, fired}
-use Rattle.theory.specs.Tallies.{Tally, spent, gained, Realizable, Reached}
-use Rattle.theory.specs.Orders.{less, Safe}
+use Rattle.theory.specs.Tallies.{Tally, spent, gained, Reached}
+use Rattle.theory.specs.Orders.{less}
 use Rattle.theory.specs.Tests.{any-below, is-reached}
-use Rattle.theory.specs.Laws.{Firing-keeps-final-numbers, Safe-by-its-input, Closed-set, Closed-set-is-reached}
+use Rattle.theory.specs.Laws.{Firing-keeps-final-numbers, Safe-by-its-input, Closed-set-is-reached}
 use Rattle.theory.proofs.TallySums.{sum-less}
 use Rattle.theory.proofs.Realized.{Inputs-reached, fired-is, realizes-enough, realizes-reached}
 use Rattle.theory.proofs.SafeSteps.{keeps-if-back, keeps-if-last, keeps-safe}

@@ -1,16 +1,15 @@
 -- Where no place is short and the inputs of the steps are reached, there is a step after which that
 -- still holds, and so an order that does the tally.
-use mathlib.Core.Path.{_≡_, refl, ap, subst, sym}
-use mathlib.Core.List.{List, [], _∷_}
+use mathlib.Core.Path.{_≡_, refl, subst, sym}
+use mathlib.Core.List.{[], _∷_}
 use mathlib.Core.Logic.{_⊎_, inl, inr}
-use Prim.Native.Nat.{ℕ, zero, suc, _+_, _-_, _*_, _<_, _≤_}
+use Prim.Native.Nat.{ℕ, zero, suc, _-_, _*_, _<_}
 use native.Mathlib.Nat.{mul-pos}
 use native.Mathlib.Omega.{arith}
 use Rattle.std.proofs.shelf.Tests.{cases-eq, cases-lt}
-use Rattle.theory.specs.Sums.{sumTo}
 use Rattle.theory.specs.Nets.{NetMeaning, Inputs-inside}
 use Rattle.theory.specs.Firing.{Marking, one-at, fired}
-use Rattle.theory.specs.Tallies.{Tally, steps-asked, spent, gained, Realizes, Realizable, Reached}
+use Rattle.theory.specs.Tallies.{Tally, steps-asked, Realizable, Reached}
 use Rattle.theory.specs.Tallies.Reached.{marked, through}
 use Rattle.theory.specs.Orders.{less, Safe}
 use Rattle.theory.proofs.SumLaws.{le-sumTo}
