@@ -274,37 +274,49 @@ the-last-block-may-go-where-it-comes-back = record {
 
 abbrev pub one-block-becomes-two : Case
 one-block-becomes-two = record {
-  net = fork; start = 1 ∷ 0 ∷ 0 ∷ []; tally = 2 ∷ 1 ∷ 1 ∷ [];
+  net = fork;
+  start = 1 ∷ 0 ∷ 0 ∷ [];
+  tally = 2 ∷ 1 ∷ 1 ∷ [];
   expected = done (0 ∷ 1 ∷ 0 ∷ 2 ∷ []) (pos 1 ∷ pos 1 ∷ pos 1 ∷ []) (0 ∷ 1 ∷ 0 ∷ 2 ∷ []);
 }
 
 abbrev pub a-chain-leaves-one-order : Case
 a-chain-leaves-one-order = record {
-  net = chain; start = 1 ∷ 0 ∷ 0 ∷ 0 ∷ []; tally = 1 ∷ 1 ∷ 1 ∷ [];
+  net = chain;
+  start = 1 ∷ 0 ∷ 0 ∷ 0 ∷ [];
+  tally = 1 ∷ 1 ∷ 1 ∷ [];
   expected = done (2 ∷ 1 ∷ 0 ∷ []) (pos 0 ∷ pos 0 ∷ pos 0 ∷ pos 1 ∷ []) (2 ∷ 1 ∷ 0 ∷ []);
 }
 
 abbrev pub a-net-without-steps-keeps-its-blocks : Case
 a-net-without-steps-keeps-its-blocks = record {
-  net = still; start = 3 ∷ 4 ∷ []; tally = [];
+  net = still;
+  start = 3 ∷ 4 ∷ [];
+  tally = [];
   expected = done [] (pos 3 ∷ pos 4 ∷ []) [];
 }
 
 abbrev pub a-block-given-back-serves-again : Case
 a-block-given-back-serves-again = record {
-  net = idle; start = 1 ∷ []; tally = 4 ∷ [];
+  net = idle;
+  start = 1 ∷ [];
+  tally = 4 ∷ [];
   expected = done (0 ∷ 0 ∷ 0 ∷ 0 ∷ []) (pos 1 ∷ []) (0 ∷ 0 ∷ 0 ∷ 0 ∷ []);
 }
 
 abbrev pub a-block-given-back-must-be-there : Case
 a-block-given-back-must-be-there = record {
-  net = idle; start = 0 ∷ []; tally = 4 ∷ [];
+  net = idle;
+  start = 0 ∷ [];
+  tally = 4 ∷ [];
   expected = cannot (cut-off-at 0) (pos 0 ∷ []) [] (Some 0);
 }
 
 abbrev pub the-largest-yield : Case
 the-largest-yield = record {
-  net = burst; start = 1 ∷ 0 ∷ []; tally = 1 ∷ 2 ∷ [];
+  net = burst;
+  start = 1 ∷ 0 ∷ [];
+  tally = 1 ∷ 2 ∷ [];
   expected = done (0 ∷ 1 ∷ 1 ∷ []) (pos 0 ∷ pos 253 ∷ []) (0 ∷ 1 ∷ 1 ∷ []);
 }
 
