@@ -1,22 +1,22 @@
 -- An accepted resume is as a fire of each step of its order.
-use mathlib.Core.Path.{_≡_, refl, ap, subst, sym, _∙_}
-use mathlib.Core.List.{List, [], _∷_, _++_}
-use Prim.Native.Nat.{ℕ, zero, suc, _+_, _-_, _<_, _≤_}
+use mathlib.Core.Path.{_≡_, refl, ap, subst, sym}
+use mathlib.Core.List.{List, [], _∷_}
+use Prim.Native.Nat.{ℕ, suc, _+_, _-_, _<_, _≤_}
 use native.Mathlib.Omega.{arith}
 use lib.ListN.{length}
 use Rattle.std.specs.declared.option.Option.{Option}
-use Rattle.std.specs.declared.option.Option.the-variants.{Some, None}
+use Rattle.std.specs.declared.option.Option.the-variants.{None}
 use Rattle.refusals.specs.declared.Refusal.{Refusal}
 use Rattle.theory.specs.Sums.{sumTo}
 use Rattle.theory.specs.Nets.{NetMeaning, NetLaw}
 use Rattle.theory.specs.Rows.{at}
-use Rattle.theory.specs.Firing.{Marking, one-at, Can-fire}
-use Rattle.theory.specs.Tallies.{Tally, steps-asked}
+use Rattle.theory.specs.Firing.{one-at, Can-fire}
+use Rattle.theory.specs.Tallies.{Tally}
 use Rattle.theory.proofs.SumLaws.{sumTo-add, sumTo-change, sumTo-none}
 use Rattle.theory.proofs.TallySums.{one-same, one-other}
-use Rattle.answers.specs.States.{State, Target, done-total, done-limit, yields-of, yields-asked}
+use Rattle.answers.specs.States.{State, Target, done-total, done-limit, yields-of}
 use Rattle.answers.specs.Answers.{unless, fire-refusal, after-fire, resume-refusal, the-order, after-resume}
-use Rattle.answers.specs.Calls.{Call, after-call, after-calls, fires, yields-in}
+use Rattle.answers.specs.Calls.{after-call, after-calls, fires, yields-in}
 use Rattle.answers.specs.Calls.Call.{fire, resume}
 use Rattle.answers.specs.Promise.{Leads, All-accepted, As-fires, Same-state}
 use Rattle.answers.proofs.Sizes.{fits-fire}

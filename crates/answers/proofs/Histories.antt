@@ -1,7 +1,7 @@
 -- Lists of calls: the order that they fire together, the done row, and the blocks on the board.
-use mathlib.Core.Path.{_≡_, refl, ap, subst, sym, _∙_}
-use mathlib.Core.List.{List, [], _∷_, _++_}
-use mathlib.Core.Logic.{_⊎_, inl, inr}
+use mathlib.Core.Path.{_≡_, refl, ap, sym, _∙_}
+use mathlib.Core.List.{List, [], _∷_}
+use mathlib.Core.Logic.{inl, inr}
 use Prim.Native.Nat.{ℕ, zero, suc, _+_, _-_, _<_, _≤_}
 use native.Mathlib.Omega.{arith}
 use lib.ListN.{length}
@@ -12,14 +12,13 @@ use Rattle.refusals.specs.declared.Refusal.{Refusal}
 use Rattle.theory.specs.Sums.{sumTo}
 use Rattle.theory.specs.Nets.{NetMeaning, NetLaw}
 use Rattle.theory.specs.Rows.{at}
-use Rattle.theory.specs.Firing.{Marking, one-at, fired, Can-fire, after, times}
-use Rattle.theory.specs.Tallies.{Tally, steps-asked}
+use Rattle.theory.specs.Firing.{Marking, one-at, fired, Can-fire, after}
+use Rattle.theory.specs.Tallies.{steps-asked}
 use Rattle.theory.proofs.SumLaws.{sumTo-same, sumTo-add, sumTo-none}
 use Rattle.theory.proofs.TallySums.{one-other}
 use Rattle.theory.proofs.Realized.{fired-is}
-use Rattle.answers.specs.States.{State, Target, New, done-total, done-limit, yields-of}
+use Rattle.answers.specs.States.{State, Target, New, done-total, done-limit}
 use Rattle.answers.specs.Answers.{unless, fire-refusal, after-fire, resume-refusal, after-resume}
-use Rattle.answers.specs.Findings.{survey-refusal}
 use Rattle.answers.specs.Calls.{Call, refusal-of, next-state, asked-by, fired-by, after-call, after-calls, history, accepted-times, yields-in}
 use Rattle.answers.specs.Calls.Call.{fire, resume, survey}
 use Rattle.answers.specs.Promise.{Leads}

@@ -1,25 +1,24 @@
 -- What a call leaves: the state that the steps it fired lead to.
 use mathlib.Core.Path.{_≡_, refl, ap, subst, sym, _∙_, fun-ext}
 use mathlib.Core.List.{List, [], _∷_, _++_}
-use mathlib.Core.Logic.{_⊎_, inl, inr}
-use Prim.Native.Nat.{ℕ, zero, suc, _+_, _-_, _*_, _<_, _≤_}
+use mathlib.Core.Logic.{inl, inr}
+use Prim.Native.Nat.{ℕ, zero, suc, _+_, _-_, _≤_}
 use native.Mathlib.Omega.{arith}
-use lib.ListN.{length, getD}
+use lib.ListN.{length}
 use Rattle.std.specs.declared.option.Option.{Option}
 use Rattle.std.specs.declared.option.Option.the-variants.{Some, None}
 use Rattle.std.proofs.shelf.Tests.{cases-lt}
 use Rattle.refusals.specs.declared.Refusal.{Refusal}
 use Rattle.theory.specs.Nets.{NetMeaning, NetLaw}
 use Rattle.theory.specs.Rows.{at}
-use Rattle.theory.specs.Firing.{Marking, one-at, fired, Can-fire, after, times}
+use Rattle.theory.specs.Firing.{Marking, fired, Can-fire, after, times}
 use Rattle.theory.specs.Tallies.{Tally, steps-asked, Realizes}
 use Rattle.theory.specs.Orders.{less}
 use Rattle.theory.proofs.TallySums.{one-other, sum-less, sum-nothing}
-use Rattle.theory.proofs.Realized.{first-counts, rest-realizes, length-is}
+use Rattle.theory.proofs.Realized.{first-counts, rest-realizes}
 use Rattle.theory.proofs.Appended.{can-fire-appended, after-appended, times-appended}
 use Rattle.answers.specs.States.{State, Target, yields-of, yields-asked}
 use Rattle.answers.specs.Answers.{unless, fire-refusal, after-fire, resume-refusal, the-order, after-resume}
-use Rattle.answers.specs.Findings.{survey-refusal}
 use Rattle.answers.specs.Calls.{Call, refusal-of, order-of, next-state, fired-by, after-call, yields-in}
 use Rattle.answers.specs.Calls.Call.{fire, resume, survey}
 use Rattle.answers.specs.Promise.{Leads, Same-state}

@@ -7,3 +7,4 @@ pub mod AsFires
 pub mod Surveys
 pub mod Histories
 pub mod Promised
+pub mod Pinning

@@ -1,16 +1,16 @@
 -- What the test for a missed place decides, of the final number and of the marking after an order.
-use mathlib.Core.Path.{_≡_, refl, ap, subst, sym}
+use mathlib.Core.Path.{_≡_, refl}
 use mathlib.Core.List.{List}
-use mathlib.Core.Bool.{Bool, true, false, not, cond}
+use mathlib.Core.Bool.{not, cond}
 use mathlib.Core.Logic.{_⊎_, inl, inr}
-use Prim.Native.Nat.{ℕ, zero, suc, _+_, _<_, _≤_}
+use Prim.Native.Nat.{ℕ, zero, suc, _+_, _<_}
 use native.Mathlib.Omega.{arith}
 use lib.Dec.{eqb, ltb}
-use lib.IntN.{pos, _-ℤ_}
+use lib.IntN.{pos}
 use lib.Signed.{_<ℤ_}
 use Rattle.std.specs.Orderings.{Decides}
-use Rattle.std.proofs.shelf.Tests.{cases-eq, cases-lt, both-ways}
-use Rattle.std.proofs.shelf.Ways.{decides-not, decides-ltb, decides-eqb, decides-like, not-from-decides}
+use Rattle.std.proofs.shelf.Tests.{cases-eq, cases-lt}
+use Rattle.std.proofs.shelf.Ways.{decides-not, decides-ltb, decides-eqb, decides-like}
 use Rattle.std.proofs.shelf.Signed.{ints}
 use Rattle.theory.specs.Nets.{NetMeaning}
 use Rattle.theory.specs.Rows.{at}

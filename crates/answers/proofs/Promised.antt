@@ -1,10 +1,11 @@
 -- The promise.
 use mathlib.Core.Path.{_≡_, refl, ap, subst, sym, _∙_}
-use mathlib.Core.List.{List, [], _∷_, _++_}
-use mathlib.Core.Logic.{_⊎_, _↔_, inl, inr}
-use Prim.Native.Nat.{ℕ, zero, suc, _+_, _-_, _*_, _<_, _≤_}
+use mathlib.Core.List.{List, []}
+use mathlib.Core.Logic.{inl, inr}
+use Prim.Native.Nat.{ℕ, _+_, _-_, _*_, _<_, _≤_}
 use native.Mathlib.Omega.{arith}
-use lib.ListN.{length}
+use lib.ListN.{length, drop, length-append, length-drop}
+use lib.Seq.{take-append-seam, drop-append-seam}
 use Rattle.std.specs.declared.option.Option.{Option}
 use Rattle.std.specs.declared.option.Option.the-variants.{Some, None}
 use Rattle.std.proofs.shelf.Tests.{cases-lt}
@@ -12,28 +13,33 @@ use Rattle.refusals.specs.declared.Refusal.{Refusal}
 use Rattle.theory.specs.Sums.{sumTo}
 use Rattle.theory.specs.Nets.{NetMeaning, NetLaw}
 use Rattle.theory.specs.Rows.{at}
-use Rattle.theory.specs.Firing.{Marking, one-at, after}
-use Rattle.theory.specs.Tallies.{Tally, steps-asked, Realizes}
+use Rattle.theory.specs.Firing.{one-at, after}
+use Rattle.theory.specs.Tallies.{steps-asked, Realizes}
 use Rattle.theory.proofs.SumLaws.{sumTo-same, sumTo-none}
 use Rattle.theory.proofs.Realized.{leaves, length-is}
+use Rattle.theory.proofs.Decided.{some-none}
 use Rattle.theory.proofs.Exchanging.{agreeing-exchanged}
-use Rattle.answers.specs.States.{State, New, Target, done-total, done-limit, yields-of, yields-asked}
-use Rattle.answers.specs.Answers.{unless, size-refusal, resume-refusal, the-order, after-resume}
+use Rattle.answers.specs.States.{State, New, Target, exact, done-total, done-limit, yields-of, yields-asked}
+use Rattle.answers.specs.Answers.{answered, unless, written, fire-refusal, resume-refusal, the-order, after-resume}
 use Rattle.answers.specs.Findings.{survey-refusal, findings}
-use Rattle.answers.specs.Calls.{Call, refusal-of, order-of, fired-by, after-call, after-calls, history, yields-in}
+use Rattle.answers.specs.Calls.{Call, refusal-of, order-of, fired-by, after-call, accepted-answer, said, answer-to, after-calls, history, yields-in}
 use Rattle.answers.specs.Calls.Call.{fire, resume, survey}
-use Rattle.answers.specs.Promise.{Leads, In-any-state, Hand-over, Replayed, After-calls, Promise}
-use Rattle.answers.proofs.Sizes.{fire-fits, fits-fire, why-fire, fire-why, size-fits, fits-size, survey-fits, fits-survey, why-survey, survey-why}
+use Rattle.answers.specs.Promise.{Leads, Says, Writes, In-any-state, Hand-over, Replayed, After-calls, Promise}
+use Rattle.answers.proofs.Sizes.{fire-fits, fits-fire, why-fire, fire-why, size-fits, survey-fits, fits-survey, why-survey, survey-why}
 use Rattle.answers.proofs.Resumes.{fits-now, such-now, later-now, long-now, accepts, why-resume, resume-why}
 use Rattle.answers.proofs.Leading.{at-past, yields-is, call-leads}
 use Rattle.answers.proofs.AsFires.{resume-as-fires}
 use Rattle.answers.proofs.Surveys.{finds-all, few-findings}
-use Rattle.answers.proofs.Histories.{calls-lead, calls-done, Within, new-within, calls-within, asked-is, sum-past, blocks-stay, outside-stays}
+use Rattle.answers.proofs.Histories.{calls-lead, calls-done, Within, new-within, calls-within, sum-past, blocks-stay, outside-stays}
 
 -- IN ANY STATE
 
-refused-none : (N : NetMeaning) (s : State) (c : Call) (e : Refusal) → refusal-of N s c ≡ Some e → fired-by N s c ≡ []
-refused-none N s c e h = ap (λ (o : Option Refusal). unless o [] (order-of N s c)) h
+-- what is fired and told once it is known whether the call is refused
+fired-when : (N : NetMeaning) (s : State) (c : Call) (o : Option Refusal) → refusal-of N s c ≡ o → fired-by N s c ≡ unless o [] (order-of N s c)
+fired-when N s c o h = ap (λ (q : Option Refusal). unless q [] (order-of N s c)) h
+
+told-when : (N : NetMeaning) (s : State) (c : Call) (o : Option Refusal) → refusal-of N s c ≡ o → answer-to N s c ≡ said o (accepted-answer N s c)
+told-when N s c o h = ap (λ (q : Option Refusal). said q (accepted-answer N s c)) h
 
 survey-none : (N : NetMeaning) (s : State) (tally : List ℕ) (target : Target) (memory : ℕ) → fired-by N s (survey tally target memory) ≡ []
 survey-none N s tally target memory = go (survey-refusal N s tally target memory)
@@ -42,10 +48,36 @@ survey-none N s tally target memory = go (survey-refusal N s tally target memory
     go None = refl
     go (Some e) = refl
 
+says : {A : Type 0} (o : Option Refusal) (a : A) → Says o a (answered o a)
+says o a = record {
+  accepted = λ h. ap (λ (q : Option Refusal). answered q a) h;
+  refused = λ e h. ap (λ (q : Option Refusal). answered q a) h;
+}
+
+few : (a b : ℕ) → a ≤ 192 → 192 ≤ b → a ≤ b
+few a b h k = omega arith
+
+-- an order or list that fits is written from the front
+writes : {A : Type 0} (o : Option Refusal) (items memory : List A) → (o ≡ None → length items ≤ length memory) →
+    Writes o items memory (unless o memory (written items memory))
+writes None items memory fits = record {
+  as-long = simp (length-append, length-drop) (omega (arith, fits refl));
+  front = λ _. take-append-seam items (drop (length items) memory);
+  rest = λ _. drop-append-seam items (drop (length items) memory);
+  refused = λ e h. absurd (some-none e (sym h));
+}
+writes (Some d) items memory fits = record {
+  as-long = refl;
+  front = λ h. absurd (some-none d h);
+  rest = λ h. absurd (some-none d h);
+  refused = λ e h. refl;
+}
+
 any-state : (N : NetMeaning) → NetLaw N → (s : State) → In-any-state N s
 any-state N law s = record {
   fires-exactly = λ t. (fire-fits N s t, fits-fire N s t);
   fire-refused-for = λ t e. (why-fire N s t e, fire-why N s t e);
+  fire-says = λ t. says (fire-refusal N s t) tt;
   accepts-exactly = λ tally target memory size. (
     λ h. (the-order N s tally, such-now N law s tally target memory h),
     λ o. accepts N law s tally target memory (size-fits N s tally target memory size) (o .0) (o .1),
@@ -60,16 +92,30 @@ any-state N law s = record {
   );
   writes-the-first = λ tally target memory h. (such-now N law s tally target memory h, later-now N law s tally target memory h);
   order-long = long-now N law s;
+  resume-says = λ tally target memory. says (resume-refusal N s tally target memory) (length (the-order N s tally));
+  resume-writes = λ tally target memory.
+      writes (resume-refusal N s tally target (length memory)) (the-order N s tally) memory
+      (λ h. subst (λ (k : ℕ). k ≤ length memory) (sym (long-now N law s tally target (length memory) h))
+      (fits-now N law s tally target (length memory) h .memory-holds));
   resumes-as-fires = resume-as-fires N law s;
   surveys-exactly = λ tally target memory. (survey-fits N s tally target memory, fits-survey N s tally target memory);
   survey-refused-for = λ tally target memory e. (why-survey N s tally target memory e, survey-why N s tally target memory e);
-  finds-all = λ tally target memory h. (
-    finds-all N law (s .counts) (at tally) target (survey-fits N s tally target memory h .rows .known-kind),
-    few-findings N law (s .counts) (at tally) target,
-  );
+  finds-all = λ tally target memory h.
+      finds-all N law (s .counts) (at tally) target (survey-fits N s tally target memory h .rows .known-kind);
+  survey-says = λ tally target memory. says (survey-refusal N s tally target memory) (length (findings N (s .counts) (at tally) target));
+  survey-writes = λ tally target memory.
+      writes (survey-refusal N s tally target (length memory)) (findings N (s .counts) (at tally) target) memory
+      (λ h. few (length (findings N (s .counts) (at tally) target)) (length memory) (few-findings N law (s .counts) (at tally) target)
+      (survey-fits N s tally target (length memory) h .memory-holds));
   leaves-what-it-fired = call-leads N s law;
-  refused-fires-none = refused-none N s;
+  fire-fires = λ t. fired-when N s (fire t) None;
+  resume-fires = λ tally target memory. fired-when N s (resume tally target memory) None;
   survey-fires-none = survey-none N s;
+  refused-fires-none = λ c e. fired-when N s c (Some e);
+  fire-told = λ t. told-when N s (fire t) None;
+  resume-told = λ tally target memory. told-when N s (resume tally target memory) None;
+  survey-told = λ tally target memory. told-when N s (survey tally target memory) None;
+  refusal-told = λ c e. told-when N s c (Some e);
 }
 
 -- AFTER EVERY LIST OF CALLS
@@ -103,7 +149,7 @@ module _ (N : NetMeaning) (law : NetLaw N) (start : State) (new : New start) (ca
 
   module _ (other : State) (tally numbers : List ℕ) (memory : ℕ) (given : Hand-over N start end other tally numbers memory) where
     abbrev target : Target
-    target = record { numbers = numbers; kind = 0 }
+    target = exact numbers
 
     tally-is : (t : ℕ) → at tally t ≡ end .done t
     tally-is t =

@@ -1,32 +1,32 @@
 -- When a resume is accepted, which order it takes, and why it is refused.
-use mathlib.Core.Path.{_≡_, refl, ap, subst, sym, _∙_}
+use mathlib.Core.Path.{_≡_, refl, ap, subst}
 use mathlib.Core.List.{List}
-use mathlib.Core.Bool.{Bool, true, false}
+use mathlib.Core.Bool.{Bool}
 use mathlib.Core.Logic.{_⊎_, inl, inr}
-use Prim.Native.Nat.{ℕ, _+_, _<_, _≤_}
+use Prim.Native.Nat.{ℕ, _<_}
 use native.Mathlib.Omega.{arith}
 use lib.ListN.{length}
 use Rattle.std.specs.Orderings.{Decides}
 use Rattle.std.specs.Options.{orOther, mapped}
 use Rattle.std.specs.declared.option.Option.{Option}
 use Rattle.std.specs.declared.option.Option.the-variants.{Some, None}
-use Rattle.std.proofs.shelf.Tests.{cases-bool, both-ways, lt-ltb, le-ltb}
+use Rattle.std.proofs.shelf.Tests.{cases-bool, lt-ltb, le-ltb}
 use Rattle.std.proofs.shelf.Ways.{not-from-decides}
 use Rattle.refusals.specs.declared.Refusal.{Refusal}
 use Rattle.refusals.specs.declared.Refusal.the-variants.{Short, CutOff, Missed}
-use Rattle.theory.specs.Nets.{NetMeaning, NetLaw, Inputs-inside}
+use Rattle.theory.specs.Nets.{NetMeaning, NetLaw}
 use Rattle.theory.specs.Rows.{at}
 use Rattle.theory.specs.Firing.{Marking, after}
 use Rattle.theory.specs.Tallies.{Tally, steps-asked, Cut-off, No-place-short, No-place-cut-off, Realizes, Realizable}
 use Rattle.theory.specs.Tallies as theory
 use Rattle.theory.specs.Orders.{First, Earlier}
-use Rattle.theory.specs.Tests.{least, is-short, is-cut-off, first-order}
+use Rattle.theory.specs.Tests.{least, is-short, is-cut-off}
 use Rattle.theory.proofs.Realized.{length-is}
 use Rattle.theory.proofs.Decided.{some-none, least-found, none-found, short-decided, cut-off-decided, done-exactly-if}
 use Rattle.theory.proofs.FirstOrder.{computed-is-first}
 use Rattle.answers.specs.States.{State, Target}
 use Rattle.answers.specs.Answers.{size-checks, size-refusal, is-missed, cause-refusal, resume-refusal, the-order}
-use Rattle.answers.specs.Reasons.{Rows-fit, Resume-fits, Why-resume, Misses, Meets, Such, Least-short, Least-cut-off, Least-missed}
+use Rattle.answers.specs.Reasons.{Resume-fits, Why-resume, Misses, Meets, Such}
 use Rattle.answers.specs.Reasons.Why-resume.{rows-unfit, limit-reached, memory-short, spare-short, a-place-short, a-place-cut-off, a-place-missed}
 use Rattle.answers.proofs.Options.{none-or, or-none, some-or, or-first, or-second, none-mapped, some-mapped, wrong-some}
 use Rattle.answers.proofs.Sizes.{size-fits, fits-size, why-size, from-fit, from-unfit}

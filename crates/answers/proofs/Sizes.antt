@@ -1,15 +1,15 @@
 -- What the checks of fire, the size checks of resume and the checks of survey say.
-use mathlib.Core.Path.{_≡_, refl, ap, subst, sym}
+use mathlib.Core.Path.{_≡_, refl, subst}
 use mathlib.Core.List.{List}
-use mathlib.Core.Bool.{Bool, true, false, not, _&&_}
-use mathlib.Core.Logic.{_⊎_, inl, inr}
-use Prim.Native.Nat.{ℕ, _+_, _<_, _≤_}
+use mathlib.Core.Bool.{true, false, not}
+use mathlib.Core.Logic.{inl, inr}
+use Prim.Native.Nat.{ℕ, _+_, _<_}
 use native.Mathlib.Omega.{arith}
-use lib.Dec.{eqb, ltb, leb}
+use lib.Dec.{eqb}
 use lib.ListN.{length}
 use Rattle.std.specs.Orderings.{Decides}
 use Rattle.std.specs.declared.option.Option.the-variants.{Some, None}
-use Rattle.std.proofs.shelf.Tests.{cases-bool, both-ways, ltb-true, ltb-false, lt-ltb, le-ltb, leb-true, leb-false, le-leb, lt-leb, eqb-true, eqb-false, eq-eqb, ne-eqb, not-true, not-false, not-from-true, not-from-false}
+use Rattle.std.proofs.shelf.Tests.{cases-bool, both-ways, ltb-true, ltb-false, lt-ltb, le-ltb, leb-true, leb-false, le-leb, lt-leb, eqb-true, eqb-false, eq-eqb, ne-eqb, not-false, not-from-true}
 use Rattle.std.proofs.shelf.Ways.{decides-and, decides-ltb, decides-eqb, decides-like}
 use Rattle.refusals.specs.declared.Refusal.{Refusal}
 use Rattle.theory.specs.Nets.{NetMeaning}
@@ -22,7 +22,7 @@ use Rattle.answers.specs.Reasons.{Fire-fits, Why-fire, Rows-fit, Resume-fits, 
 use Rattle.answers.specs.Reasons.Why-fire.{no-such-step, input-empty, limit-reached as fire-limit, spare-short as fire-spare}
 use Rattle.answers.specs.Reasons.Why-resume.{rows-unfit as resume-rows, limit-reached as resume-limit, memory-short as resume-memory, spare-short as resume-spare}
 use Rattle.answers.specs.Reasons.Why-survey.{rows-unfit as survey-rows, limit-reached as survey-limit, memory-short as survey-memory}
-use Rattle.answers.proofs.Options.{All-right, Wrong-first, all-right, right-none, wrong-first, wrong-some}
+use Rattle.answers.proofs.Options.{Wrong-first, all-right, right-none, wrong-first, wrong-some}
 
 pos-from : (a : ℕ) → eqb a 0 ≡ false → 0 < a
 pos-from a h = omega (arith, eqb-false a 0 h)

@@ -1,6 +1,6 @@
 -- What fire and resume answer: the refusal, or the order and what the sitting holds afterwards.
 use mathlib.Core.List.{List, [], _∷_, _++_}
-use mathlib.Core.Bool.{Bool, true, false, not, cond, _&&_}
+use mathlib.Core.Bool.{Bool, not, cond, _&&_}
 use Prim.Native.Nat.{ℕ, _+_, _-_}
 use lib.Dec.{eqb, ltb, leb}
 use lib.ListN.{length, drop}
@@ -48,9 +48,11 @@ fire-checks N s t =
     ∷ (ltb (s .spare + 1) (yields-of N t), SpareShort)
     ∷ []
 
+-- why a fire is refused, if it is
 abbrev pub fire-refusal : NetMeaning → State → ℕ → Option Refusal
 fire-refusal N s t = first-wrong (fire-checks N s t)
 
+-- fire answers only that it was accepted
 abbrev pub fire-answer : NetMeaning → State → ℕ → Result (Unit {0}) Refusal
 fire-answer N s t = answered (fire-refusal N s t) tt
 
@@ -78,6 +80,7 @@ size-checks N s tally target memory =
     ∷ (ltb (s .spare) (yields-asked N (at tally)), SpareShort)
     ∷ []
 
+-- which size check a resume fails first, if one
 abbrev pub size-refusal : NetMeaning → State → List ℕ → Target → ℕ → Option Refusal
 size-refusal N s tally target memory = first-wrong (size-checks N s tally target memory)
 
@@ -95,6 +98,7 @@ cause-refusal N m x target =
     (orOther (mapped CutOff (least (is-cut-off N m x) (N .places)))
     (mapped Missed (least (is-missed N m x target) (N .places))))
 
+-- why a resume is refused, if it is: the size checks, then the causes
 abbrev pub resume-refusal : NetMeaning → State → List ℕ → Target → ℕ → Option Refusal
 resume-refusal N s tally target memory =
     orOther (size-refusal N s tally target memory) (cause-refusal N (s .counts) (at tally) target)

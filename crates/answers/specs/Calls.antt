@@ -64,15 +64,18 @@ accepted-answer N s (fire t) = fired-once
 accepted-answer N s (resume tally target memory) = order-written (the-order N s tally)
 accepted-answer N s (survey tally target memory) = findings-listed (findings N (s .counts) (at tally) target)
 
+-- the refusal if there is one, else the answer
 abbrev pub said : Option Refusal → Answer → Answer
 said None answer = answer
 said (Some e) answer = refused e
 
+-- what is said to the call
 abbrev pub answer-to : NetMeaning → State → Call → Answer
 answer-to N s c = said (refusal-of N s c) (accepted-answer N s c)
 
 -- LISTS OF CALLS
 
+-- what the calls leave, one after another
 abbrev pub after-calls : NetMeaning → State → List Call → State
 after-calls N s [] = s
 after-calls N s (c ∷ cs) = after-calls N (after-call N s c) cs

@@ -10,7 +10,7 @@ use Rattle.theory.specs.Rows.{at, row-of}
 use Rattle.theory.specs.Cases.{detour, doubler, lock}
 use Rattle.answers.specs.declared.Cause.the-variants as cause
 use Rattle.answers.specs.declared.Finding.{Finding}
-use Rattle.answers.specs.States.{State, Target}
+use Rattle.answers.specs.States.{State, exact, at-least}
 use Rattle.answers.specs.Calls.{Call, Answer, answer-to, after-call}
 use Rattle.answers.specs.Calls.Call.{fire, resume, survey}
 use Rattle.answers.specs.Calls.Answer.{refused, fired-once, order-written, findings-listed}
@@ -40,13 +40,6 @@ outcome c = record {
   spare = after-call (c .net) (before c) (c .call) .spare;
   done = row-of (after-call (c .net) (before c) (c .call) .done) (c .net .steps);
 }
-
--- exact numbers, or at least these
-abbrev pub exact : List ℕ → Target
-exact numbers = record { numbers = numbers; kind = 0 }
-
-abbrev pub at-least : List ℕ → Target
-at-least numbers = record { numbers = numbers; kind = 1 }
 
 -- a call on a sitting that has done these steps, with this spare, at these counts; refused, so that all stays
 abbrev pub says-no : NetMeaning → List ℕ → ℕ → List ℕ → Call → Refusal → Case
@@ -197,6 +190,11 @@ three-groups-by-rising-place =
     lists detour (0 ∷ 0 ∷ 0 ∷ []) (survey (1 ∷ 1 ∷ 1 ∷ []) (exact (0 ∷ 0 ∷ 3 ∷ [])) 192) nothing-done
     (short 0 0 ∷ cut-off 0 ∷ cut-off 1 ∷ cut-off 2 ∷ missed 0 0 ∷ missed 2 1 ∷ [])
 
+abbrev pub missed-from-above : Case
+missed-from-above =
+    lists detour (2 ∷ 0 ∷ 0 ∷ []) (survey (1 ∷ 1 ∷ 1 ∷ []) (exact (0 ∷ 0 ∷ 1 ∷ [])) 192) nothing-done
+    (record { place = 0; cause = cause.Missed (pos 1) } ∷ [])
+
 abbrev pub nothing-to-find : Case
 nothing-to-find =
     lists detour (1 ∷ 0 ∷ 0 ∷ []) (survey (1 ∷ 1 ∷ 1 ∷ []) (exact (0 ∷ 0 ∷ 1 ∷ [])) 192) nothing-done []
@@ -229,6 +227,7 @@ cases =
     ∷ no-room-for-the-yields
     ∷ findings-memory-of-191
     ∷ three-groups-by-rising-place
+    ∷ missed-from-above
     ∷ nothing-to-find
     ∷ []
 

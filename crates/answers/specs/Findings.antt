@@ -1,6 +1,6 @@
 -- What a survey lists, and each finding's number.
 use mathlib.Core.List.{List, [], _∷_, _++_}
-use mathlib.Core.Bool.{Bool, true, false, not, cond}
+use mathlib.Core.Bool.{Bool, not, cond}
 use Prim.Native.Nat.{ℕ, zero, suc, _+_}
 use lib.Dec.{ltb}
 use lib.IntN.{ℤ, pos, _-ℤ_}
@@ -59,6 +59,7 @@ survey-checks N s tally target memory =
     ∷ (ltb memory findings-needed, ListFull)
     ∷ []
 
+-- why a survey is refused, if it is
 abbrev pub survey-refusal : NetMeaning → State → List ℕ → Target → ℕ → Option Refusal
 survey-refusal N s tally target memory = first-wrong (survey-checks N s tally target memory)
 

@@ -4,4 +4,5 @@ pub mod Findings
 pub mod Calls
 pub mod Reasons
 pub mod Promise
+pub mod Pinned
 pub mod Cases

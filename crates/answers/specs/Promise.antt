@@ -3,8 +3,11 @@ use mathlib.Core.Path.{_≡_}
 use mathlib.Core.List.{List, [], _∷_}
 use mathlib.Core.Logic.{_⊎_, _↔_}
 use Prim.Native.Nat.{ℕ, _+_, _<_, _≤_}
-use lib.ListN.{length}
+use lib.ListN.{length, take, drop}
+use Rattle.std.specs.declared.option.Option.{Option}
 use Rattle.std.specs.declared.option.Option.the-variants.{Some, None}
+use Rattle.std.specs.declared.result.Result.{Result}
+use Rattle.std.specs.declared.result.Result.the-variants.{Ok, Err}
 use Rattle.refusals.specs.declared.Refusal.{Refusal}
 use Rattle.theory.specs.Sums.{sumTo}
 use Rattle.theory.specs.Nets.{NetMeaning, NetLaw}
@@ -13,11 +16,13 @@ use Rattle.theory.specs.Firing.{Can-fire, after, times}
 use Rattle.theory.specs.Tallies.{steps-asked, Realizes}
 use Rattle.theory.specs.Orders.{Earlier}
 use Rattle.theory.specs.Laws.{Agree-below}
-use Rattle.answers.specs.States.{State, New, Target, done-total, done-limit, findings-needed, yields-asked}
-use Rattle.answers.specs.Answers.{fire-refusal, size-refusal, resume-refusal, the-order}
-use Rattle.answers.specs.Findings.{findings, survey-refusal}
-use Rattle.answers.specs.Calls.{Call, refusal-of, fired-by, after-call, after-calls, history, accepted-times, fires, yields-in}
+use Rattle.answers.specs.declared.Finding.{Finding}
+use Rattle.answers.specs.States.{State, New, Target, exact, done-total, done-limit, yields-asked}
+use Rattle.answers.specs.Answers.{fire-refusal, fire-answer, size-refusal, resume-refusal, the-order, resume-answer, order-memory}
+use Rattle.answers.specs.Findings.{findings, survey-refusal, survey-answer, findings-memory}
+use Rattle.answers.specs.Calls.{Call, refusal-of, fired-by, after-call, answer-to, after-calls, history, accepted-times, fires, yields-in}
 use Rattle.answers.specs.Calls.Call.{fire, resume, survey}
+use Rattle.answers.specs.Calls.Answer.{refused, fired-once, order-written, findings-listed}
 use Rattle.answers.specs.Reasons.{Fire-fits, Why-fire, Resume-fits, Why-resume, Such, Survey-fits, Why-survey, All-found}
 
 -- the same counts, spare and done row
@@ -33,6 +38,19 @@ pub record Leads (N : NetMeaning) (order : List ℕ) (before next : State) : Typ
   pub spare : next .spare + yields-in N order ≡ before .spare + length order
   pub done : (t : ℕ) → next .done t ≡ before .done t + times order t
 
+-- the call answers with its refusal if it is refused, else with this
+pub record Says {A : Type 0} (refusal : Option Refusal) (answer : A) (result : Result A Refusal) : Type 0 where
+  pub accepted : refusal ≡ None → result ≡ Ok answer
+  pub refused : (e : Refusal) → refusal ≡ Some e → result ≡ Err e
+
+-- lent memory has these at its front after an accepted call and behind them what it had, and all that it had after a
+-- refused one
+pub record Writes {A : Type 0} (refusal : Option Refusal) (items before next : List A) : Type 0 where
+  pub as-long : length next ≡ length before
+  pub front : refusal ≡ None → take (length items) next ≡ items
+  pub rest : refusal ≡ None → drop (length items) next ≡ drop (length items) before
+  pub refused : (e : Refusal) → refusal ≡ Some e → next ≡ before
+
 -- every one of the calls is accepted, in turn
 abbrev pub All-accepted : NetMeaning → State → List Call → Type 0
 All-accepted N s [] = Unit {0}
@@ -45,10 +63,12 @@ pub record As-fires (N : NetMeaning) (s : State) (tally : List ℕ) (target : Ta
 
 -- WHAT HOLDS IN ANY STATE
 
+-- whatever a sitting holds
 pub record In-any-state (N : NetMeaning) (s : State) : Type 0 where
   -- fire is accepted exactly if its four conditions hold, and is refused for the first that fails
   pub fires-exactly : (t : ℕ) → (fire-refusal N s t ≡ None) ↔ Fire-fits N s t
   pub fire-refused-for : (t : ℕ) (e : Refusal) → (fire-refusal N s t ≡ Some e) ↔ Why-fire N s t e
+  pub fire-says : (t : ℕ) → Says (fire-refusal N s t) tt (fire-answer N s t)
   -- past its size checks a resume is accepted exactly if some order with these counts can be fired and meets the target
   pub accepts-exactly : (tally : List ℕ) (target : Target) (memory : ℕ) → size-refusal N s tally target memory ≡ None →
       (resume-refusal N s tally target memory ≡ None) ↔ ((order : List ℕ) × Such N s tally target order)
@@ -63,23 +83,42 @@ pub record In-any-state (N : NetMeaning) (s : State) : Type 0 where
       Such N s tally target (the-order N s tally)
       × ((other : List ℕ) → Such N s tally target other →
       (the-order N s tally ≡ other) ⊎ Earlier (the-order N s tally) other)
-  -- its length, which resume answers, is the tally's total
+  -- resume answers the order's length, which is the tally's total, and writes the order into its memory
   pub order-long : (tally : List ℕ) (target : Target) (memory : ℕ) → resume-refusal N s tally target memory ≡ None →
       length (the-order N s tally) ≡ steps-asked N (at tally)
+  pub resume-says : (tally : List ℕ) (target : Target) (memory : ℕ) →
+      Says (resume-refusal N s tally target memory) (length (the-order N s tally)) (resume-answer N s tally target memory)
+  pub resume-writes : (tally : List ℕ) (target : Target) (memory : List ℕ) →
+      Writes (resume-refusal N s tally target (length memory)) (the-order N s tally) memory (order-memory N s tally target memory)
   pub resumes-as-fires : (tally : List ℕ) (target : Target) (memory : ℕ) → resume-refusal N s tally target memory ≡ None →
       As-fires N s tally target memory
-  -- survey is accepted exactly if its checks pass, and lists a finding exactly where there is one, in memory that suffices
+  -- survey is accepted exactly if its checks pass, and lists a finding exactly where there is one
   pub surveys-exactly : (tally : List ℕ) (target : Target) (memory : ℕ) →
       (survey-refusal N s tally target memory ≡ None) ↔ Survey-fits N s tally target memory
   pub survey-refused-for : (tally : List ℕ) (target : Target) (memory : ℕ) (e : Refusal) →
       (survey-refusal N s tally target memory ≡ Some e) ↔ Why-survey N s tally target memory e
   pub finds-all : (tally : List ℕ) (target : Target) (memory : ℕ) → survey-refusal N s tally target memory ≡ None →
       All-found N (s .counts) (at tally) target (findings N (s .counts) (at tally) target)
-      × (length (findings N (s .counts) (at tally) target) ≤ findings-needed)
-  -- whatever call comes next leaves what the steps that it fired give, and changes nothing where it fired none
+  -- it answers how many they are, and writes them into its memory
+  pub survey-says : (tally : List ℕ) (target : Target) (memory : ℕ) →
+      Says (survey-refusal N s tally target memory) (length (findings N (s .counts) (at tally) target)) (survey-answer N s tally target memory)
+  pub survey-writes : (tally : List ℕ) (target : Target) (memory : List Finding) →
+      Writes (survey-refusal N s tally target (length memory)) (findings N (s .counts) (at tally) target) memory
+      (findings-memory N s tally target memory)
+  -- whatever call comes next leaves what the steps that it fired give: its step, its order, or none
   pub leaves-what-it-fired : (c : Call) → Leads N (fired-by N s c) s (after-call N s c)
-  pub refused-fires-none : (c : Call) (e : Refusal) → refusal-of N s c ≡ Some e → fired-by N s c ≡ []
+  pub fire-fires : (t : ℕ) → fire-refusal N s t ≡ None → fired-by N s (fire t) ≡ t ∷ []
+  pub resume-fires : (tally : List ℕ) (target : Target) (memory : ℕ) → resume-refusal N s tally target memory ≡ None →
+      fired-by N s (resume tally target memory) ≡ the-order N s tally
   pub survey-fires-none : (tally : List ℕ) (target : Target) (memory : ℕ) → fired-by N s (survey tally target memory) ≡ []
+  pub refused-fires-none : (c : Call) (e : Refusal) → refusal-of N s c ≡ Some e → fired-by N s c ≡ []
+  -- what the transcript has of it
+  pub fire-told : (t : ℕ) → fire-refusal N s t ≡ None → answer-to N s (fire t) ≡ fired-once
+  pub resume-told : (tally : List ℕ) (target : Target) (memory : ℕ) → resume-refusal N s tally target memory ≡ None →
+      answer-to N s (resume tally target memory) ≡ order-written (the-order N s tally)
+  pub survey-told : (tally : List ℕ) (target : Target) (memory : ℕ) → survey-refusal N s tally target memory ≡ None →
+      answer-to N s (survey tally target memory) ≡ findings-listed (findings N (s .counts) (at tally) target)
+  pub refusal-told : (c : Call) (e : Refusal) → refusal-of N s c ≡ Some e → answer-to N s c ≡ refused e
 
 -- WHAT HOLDS AFTER EVERY LIST OF CALLS
 
@@ -99,11 +138,12 @@ pub record Hand-over (N : NetMeaning) (start now other : State) (tally numbers :
 
 -- its resume accepts and ends at that marking, with that done row, the spare differing as it did
 pub record Replayed (N : NetMeaning) (start now other : State) (tally numbers : List ℕ) (memory : ℕ) : Type 0 where
-  pub accepted : resume-refusal N other tally (record { numbers = numbers; kind = 0 }) memory ≡ None
-  pub counts : Agree-below (N .places) (after-call N other (resume tally (record { numbers = numbers; kind = 0 }) memory) .counts) (now .counts)
-  pub spare : after-call N other (resume tally (record { numbers = numbers; kind = 0 }) memory) .spare + start .spare ≡ now .spare + other .spare
-  pub done : (t : ℕ) → after-call N other (resume tally (record { numbers = numbers; kind = 0 }) memory) .done t ≡ now .done t
+  pub accepted : resume-refusal N other tally (exact numbers) memory ≡ None
+  pub counts : Agree-below (N .places) (after-call N other (resume tally (exact numbers) memory) .counts) (now .counts)
+  pub spare : after-call N other (resume tally (exact numbers) memory) .spare + start .spare ≡ now .spare + other .spare
+  pub done : (t : ℕ) → after-call N other (resume tally (exact numbers) memory) .done t ≡ now .done t
 
+-- whatever calls were made on a new sitting, refused ones included
 pub record After-calls (N : NetMeaning) (start : State) (calls : List Call) : Type 0 where
   -- each step's done count is its accepted fires and its numbers in the tallies that resume accepted
   pub counts-accepted-work : (t : ℕ) → after-calls N start calls .done t ≡ accepted-times N start calls t

@@ -35,6 +35,13 @@ pub record Target : Type 0 where
   pub numbers : List ℕ
   pub kind : ℕ
 
+-- an exact target, and an at-least target
+abbrev pub exact : List ℕ → Target
+exact numbers = record { numbers = numbers; kind = 0 }
+
+abbrev pub at-least : List ℕ → Target
+at-least numbers = record { numbers = numbers; kind = 1 }
+
 -- all blocks that one firing of the step yields
 abbrev pub yields-of : NetMeaning → ℕ → ℕ
 yields-of N t = sumTo (N .yields t) (N .places)

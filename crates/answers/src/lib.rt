@@ -1,6 +1,7 @@
 //! Answers: what fire, resume and survey answer and leave, as definitions, and the promise over them.
 ghost use Rattle.answers.specs.Cases.{Cases-hold};
 ghost use Rattle.answers.specs.Findings.{numberOf};
+ghost use Rattle.answers.specs.Pinned.{Pinned};
 ghost use Rattle.answers.specs.Promise.{Promise};
 ghost use mathlib.Core.Path.{_≡_};
 
@@ -39,6 +40,14 @@ impl Cause {
 pub fn promise_stands() -> u8
     ensures answer { λ r. ⌜ r ≡ 0 ⌝ }
     ensures promise { λ _. ⌜ Promise ⌝ }
+{
+    0
+}
+
+/// The promise leaves no other answer: whatever has its clauses is what the definitions give.
+pub fn answers_are_pinned() -> u8
+    ensures answer { λ r. ⌜ r ≡ 0 ⌝ }
+    ensures pinned { λ _. ⌜ Pinned ⌝ }
 {
     0
 }

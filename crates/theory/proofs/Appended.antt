@@ -1,20 +1,15 @@
 -- One order after another: what is fired, where it ends, and the parts of a first order.
-use mathlib.Core.Path.{_≡_, refl, ap, subst, sym, _∙_, fun-ext}
+use mathlib.Core.Path.{_≡_, refl, subst, sym, _∙_, fun-ext}
 use mathlib.Core.List.{List, [], _∷_, _++_}
-use mathlib.Core.Bool.{true, false, cond}
 use mathlib.Core.Logic.{_⊎_, inl, inr}
-use Prim.Native.Nat.{ℕ, zero, suc, _+_, _-_, _<_, _≤_}
+use Prim.Native.Nat.{ℕ, _+_, _-_}
 use native.Mathlib.Omega.{arith}
-use lib.Dec.{ltb}
 use lib.IntN.{pos, _-ℤ_}
-use lib.Signed.{_<ℤ_}
 use lib.ListN.{length}
-use Rattle.std.proofs.shelf.Tests.{cases-lt, cases-bool, lt-ltb, le-ltb, cond-true, cond-false}
 use Rattle.std.proofs.shelf.Signed.{ints}
-use Rattle.theory.specs.Nets.{NetMeaning}
 use Rattle.theory.specs.Firing.{Marking, one-at, fired, Can-fire, after, times}
-use Rattle.theory.specs.Tallies.{Tally, spent, gained, final-number, Short, Realizes}
-use Rattle.theory.specs.Orders.{Earlier, First}
+use Rattle.theory.specs.Tallies.{spent, gained, Realizes}
+use Rattle.theory.specs.Orders.{Earlier}
 use Rattle.theory.specs.Laws.{Ends-at-final-numbers, Short-below-zero, Can-fire-appended, After-appended, Times-appended, Realizes-appended, Final-numbers-appended, Front-is-first, Rest-is-first}
 use Rattle.theory.proofs.TallySums.{sum-both}
 use Rattle.theory.proofs.Realized.{leaves, length-is}
@@ -22,7 +17,7 @@ use Rattle.theory.proofs.Realized.{leaves, length-is}
 -- FINAL NUMBERS
 
 -- differences are the same where the cross sums are
-same-difference : (a b c d : ℕ) → a + d ≡ c + b → pos a -ℤ pos b ≡ pos c -ℤ pos d
+pub same-difference : (a b c d : ℕ) → a + d ≡ c + b → pos a -ℤ pos b ≡ pos c -ℤ pos d
 same-difference a b c d e = omega (arith, ints)
 
 pub ends-at-final-numbers : Ends-at-final-numbers

@@ -1,9 +1,8 @@
 -- What the tests decide, and with it the theorem on which tallies can be done.
 use mathlib.Core.Path.{_≡_, refl, subst, ap, sym, _∙_}
-use mathlib.Core.List.{List}
 use mathlib.Core.Bool.{Bool, true, false, not, cond, _&&_, _||_}
-use mathlib.Core.Logic.{_⊎_, inl, inr, _↔_}
-use Prim.Native.Nat.{ℕ, zero, suc, _+_, _<_, _≤_}
+use mathlib.Core.Logic.{_⊎_, inl, inr}
+use Prim.Native.Nat.{ℕ, zero, suc, _+_, _<_}
 use native.Mathlib.Omega.{arith}
 use lib.Dec.{eqb, ltb}
 use Rattle.std.specs.Orderings.{Decides}
@@ -14,13 +13,13 @@ use Rattle.std.proofs.shelf.Tests.{cases-eq, cases-lt, cases-bool, both-ways, a
 use Rattle.std.proofs.shelf.Ways.{decides-and, decides-or, decides-not, decides-ltb, decides-eqb, decides-like}
 use Rattle.theory.specs.Nets.{NetMeaning, Inputs-inside}
 use Rattle.theory.specs.Firing.{Marking, fired}
-use Rattle.theory.specs.Tallies.{Tally, spent, gained, Realizes, Realizable, Short, In-subnet, Reached, Cut-off, No-place-short, No-place-cut-off}
-use Rattle.theory.specs.Tallies.Reached.{marked, through}
-use Rattle.theory.specs.Orders.{less, Safe}
+use Rattle.theory.specs.Tallies.{Tally, spent, gained, Short, In-subnet, Reached, Cut-off, No-place-short, No-place-cut-off}
+use Rattle.theory.specs.Tallies.Reached.{through}
+use Rattle.theory.specs.Orders.{less}
 use Rattle.theory.specs.Tests.{any-below, all-below, least, is-short, in-subnet, is-reached, is-cut-off, no-place-short, no-place-cut-off, can-be-done, safe}
 use Rattle.theory.specs.Laws.{Done-exactly-if, Safe-step-exists, Short-decided, Subnet-decided, Cut-off-decided, Done-decided, Safe-decided, Is-least, Least-found, None-found}
 use Rattle.theory.proofs.Realized.{Enough, Inputs-reached, realizes-enough, realizes-reached}
-use Rattle.theory.proofs.SafeSteps.{doable, safe-step, keeps-safe, enough-after}
+use Rattle.theory.proofs.SafeSteps.{doable, safe-step, keeps-safe}
 use Rattle.theory.proofs.ReachRounds.{any-find, any-from, reached-decided}
 
 -- TESTS BELOW A BOUND

@@ -1,11 +1,11 @@
 -- Only the net's places and steps count: markings and tallies that agree there can be exchanged.
-use mathlib.Core.Path.{_≡_, refl, ap, subst, sym}
+use mathlib.Core.Path.{ap, subst, sym}
 use mathlib.Core.List.{List, [], _∷_}
 use Prim.Native.Nat.{ℕ, _+_, _-_, _<_}
 use native.Mathlib.Omega.{arith}
 use Rattle.theory.specs.Nets.{NetMeaning, Inputs-inside}
 use Rattle.theory.specs.Firing.{Marking, one-at, fired, Can-fire, after}
-use Rattle.theory.specs.Tallies.{Tally, Realizes, Realizable, Reached}
+use Rattle.theory.specs.Tallies.{Tally, Realizes, Reached}
 use Rattle.theory.specs.Tallies.Reached.{marked, through}
 use Rattle.theory.specs.Orders.{First}
 use Rattle.theory.specs.Tests.{first-order}

@@ -1,22 +1,19 @@
 -- Choosing the least safe step each time gives the first order, and the computed order does so.
 use mathlib.Core.Path.{_≡_, refl, ap, subst, sym}
 use mathlib.Core.List.{List, [], _∷_}
-use mathlib.Core.Bool.{true, false}
 use mathlib.Core.Logic.{_⊎_, inl, inr}
-use Prim.Native.Nat.{ℕ, zero, suc, _+_, _-_, _<_, _≤_}
+use Prim.Native.Nat.{ℕ, zero, suc, _-_}
 use native.Mathlib.Omega.{arith}
-use lib.ListN.{length}
 use Rattle.std.specs.declared.option.Option.{Option}
 use Rattle.std.specs.declared.option.Option.the-variants.{Some, None}
 use Rattle.std.proofs.shelf.Tests.{cases-order, both-ways}
-use Rattle.theory.specs.Sums.{sumTo}
 use Rattle.theory.specs.Nets.{NetMeaning, Inputs-inside}
 use Rattle.theory.specs.Firing.{Marking, fired}
 use Rattle.theory.specs.Tallies.{Tally, steps-asked, Realizes, Realizable, No-place-short, No-place-cut-off}
-use Rattle.theory.specs.Orders.{Earlier, First, less, Safe, Least-safe-each-time}
+use Rattle.theory.specs.Orders.{Earlier, less, Safe, Least-safe-each-time}
 use Rattle.theory.specs.Tests.{least, safe, followed, first-steps, first-order}
-use Rattle.theory.specs.Laws.{Least-safe-is-first, Computed-is-least-safe, Computed-is-first, First-is-one, Earlier-one-way, Earlier-goes-on, Earlier-compares}
-use Rattle.theory.proofs.SumLaws.{le-sumTo}
+use Rattle.theory.specs.Laws.{Least-safe-is-first, Computed-is-least-safe, Computed-is-first, First-is-one, First-order-goes-on, First-order-ends, Earlier-one-way, Earlier-goes-on, Earlier-compares}
+use Rattle.theory.proofs.SumLaws.{le-sumTo, sumTo-none}
 use Rattle.theory.proofs.TallySums.{total-less, sum-find}
 use Rattle.theory.proofs.Realized.{first-counts, rest-realizes, realizes-more}
 use Rattle.theory.proofs.Decided.{done-exactly-if, safe-step-exists, safe-decided, least-found, none-found}
@@ -134,3 +131,14 @@ first-is-one N m x order other f g =
             | inr b ↦ absurd (earlier-one-way order other a b)
           ]
     ]
+
+pub first-order-goes-on : First-order-goes-on
+first-order-goes-on N inside m x t s below =
+    let rest : List ℕ = first-order N (fired N m t) (less x t) in
+    let done : Realizes N m x (t ∷ s .3 .0) = realizes-more N m x t (s .3 .0) (s .0) (s .1) (s .2) (s .3 .1) in
+    first-is-one N m x (first-order N m x) (t ∷ rest)
+    (computed-is-first N inside m x (t ∷ s .3 .0, done))
+    (least-safe-is-first N m x (t ∷ rest) (s, below, computed-is-least-safe N inside (fired N m t) (less x t) (s .3)))
+
+pub first-order-ends : First-order-ends
+first-order-ends N m x none = ap (first-steps N m x) (sumTo-none x (N .steps) none)

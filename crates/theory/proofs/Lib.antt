@@ -7,3 +7,4 @@ pub mod Decided
 pub mod FirstOrder
 pub mod Appended
 pub mod Exchanging
+pub mod SafeFound

@@ -1,9 +1,9 @@
 -- As many rounds as there are places find every place that is reached: a round that adds no place
 -- leaves a closed set, and any other raises the number of places found.
 use mathlib.Core.Path.{_≡_, refl, subst}
-use mathlib.Core.Bool.{Bool, true, false, cond, _&&_, _||_}
+use mathlib.Core.Bool.{Bool, true, false, cond, _&&_}
 use mathlib.Core.Logic.{_⊎_, inl, inr}
-use Prim.Native.Nat.{ℕ, zero, suc, _+_, _<_, _≤_}
+use Prim.Native.Nat.{ℕ, zero, suc, _<_, _≤_}
 use native.Mathlib.Omega.{arith}
 use lib.Dec.{ltb}
 use Rattle.std.specs.Orderings.{Decides}
@@ -111,12 +111,12 @@ count-more a b (suc n) up =
     ]
 
 -- no step of the tally leads out of r
-abbrev Closed : NetMeaning → Tally → (ℕ → Bool) → Type 0
+abbrev pub Closed : NetMeaning → Tally → (ℕ → Bool) → Type 0
 Closed N x r =
     (t q : ℕ) → t < N .steps → 0 < x t → r (N .input t) ≡ true → q < N .places → 0 < N .yields t q → r q ≡ true
 
 -- a closed set that has the marked places has every place that is reached
-closed-reached : (N : NetMeaning) → Inputs-inside N → (m : Marking) (x : Tally) (r : ℕ → Bool) →
+pub closed-reached : (N : NetMeaning) → Inputs-inside N → (m : Marking) (x : Tally) (r : ℕ → Bool) →
     ((p : ℕ) → p < N .places → 0 < m p → r p ≡ true) → Closed N x r →
     (q : ℕ) → Reached N m x q → q < N .places → r q ≡ true
 closed-reached N inside m x r start closed =

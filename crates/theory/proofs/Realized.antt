@@ -2,14 +2,13 @@
 -- that the inputs of the steps are reached.
 use mathlib.Core.Path.{_≡_, refl, ap, subst, sym}
 use mathlib.Core.List.{List, [], _∷_}
-use mathlib.Core.Logic.{_⊎_, inl, inr}
-use Prim.Native.Nat.{ℕ, zero, suc, _+_, _-_, _*_, _<_, _≤_}
+use mathlib.Core.Logic.{inl, inr}
+use Prim.Native.Nat.{ℕ, _+_, _-_, _<_, _≤_}
 use native.Mathlib.Omega.{arith}
 use lib.ListN.{length}
 use Rattle.std.proofs.shelf.Tests.{cases-eq, cases-lt}
-use Rattle.theory.specs.Sums.{sumTo}
 use Rattle.theory.specs.Nets.{NetMeaning}
-use Rattle.theory.specs.Firing.{Marking, one-at, fired, Can-fire, after, times}
+use Rattle.theory.specs.Firing.{Marking, one-at, fired, after, times}
 use Rattle.theory.specs.Tallies.{Tally, steps-asked, spent, gained, Realizes, Reached}
 use Rattle.theory.specs.Tallies.Reached.{marked, through}
 use Rattle.theory.specs.Orders.{less}

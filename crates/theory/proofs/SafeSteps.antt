@@ -1,16 +1,15 @@
 -- Where no place is short and the inputs of the steps are reached, there is a step after which that
 -- still holds, and so an order that does the tally.
-use mathlib.Core.Path.{_≡_, refl, ap, subst, sym}
-use mathlib.Core.List.{List, [], _∷_}
+use mathlib.Core.Path.{_≡_, refl, subst, sym}
+use mathlib.Core.List.{[], _∷_}
 use mathlib.Core.Logic.{_⊎_, inl, inr}
-use Prim.Native.Nat.{ℕ, zero, suc, _+_, _-_, _*_, _<_, _≤_}
+use Prim.Native.Nat.{ℕ, zero, suc, _-_, _*_, _<_}
 use native.Mathlib.Nat.{mul-pos}
 use native.Mathlib.Omega.{arith}
 use Rattle.std.proofs.shelf.Tests.{cases-eq, cases-lt}
-use Rattle.theory.specs.Sums.{sumTo}
 use Rattle.theory.specs.Nets.{NetMeaning, Inputs-inside}
 use Rattle.theory.specs.Firing.{Marking, one-at, fired}
-use Rattle.theory.specs.Tallies.{Tally, steps-asked, spent, gained, Realizes, Realizable, Reached}
+use Rattle.theory.specs.Tallies.{Tally, steps-asked, Realizable, Reached}
 use Rattle.theory.specs.Tallies.Reached.{marked, through}
 use Rattle.theory.specs.Orders.{less, Safe}
 use Rattle.theory.proofs.SumLaws.{le-sumTo}
@@ -51,7 +50,7 @@ module _ (N : NetMeaning) (m : Marking) (x : Tally) where
       (N .input t) r t l h refl
 
   -- a step whose input is reached again after it
-  keeps-if-back : Inputs-reached N m x → (s : ℕ) → s < N .steps → 0 < x s → 0 < m (N .input s) →
+  pub keeps-if-back : Inputs-reached N m x → (s : ℕ) → s < N .steps → 0 < x s → 0 < m (N .input s) →
       Reached N (fired N m s) (less x s) (N .input s) → Keeps-reached N m x s
   keeps-if-back c s l h i back = (l, h, i, λ u k j. again (N .input u) (c u k (omega arith)))
     where
@@ -67,7 +66,7 @@ module _ (N : NetMeaning) (m : Marking) (x : Tally) where
           ])
 
   -- a step whose input no other step left takes from
-  keeps-if-last : Inputs-reached N m x → (s : ℕ) → s < N .steps → 0 < x s → 0 < m (N .input s) →
+  pub keeps-if-last : Inputs-reached N m x → (s : ℕ) → s < N .steps → 0 < x s → 0 < m (N .input s) →
       ((u : ℕ) → u < N .steps → 0 < less x s u → N .input s ≡ N .input u → ⊥) → Keeps-reached N m x s
   keeps-if-last c s l h i last = (l, h, i, λ u k j. again (N .input u) (c u k (omega arith)) (last u k j))
     where

@@ -1,7 +1,7 @@
 -- Small nets with known verdicts: the rule and trying every order against what was worked out by hand.
 use mathlib.Core.Path.{_≡_}
 use mathlib.Core.List.{List, [], _∷_, map}
-use mathlib.Core.Bool.{Bool, true, false, not, cond, _&&_}
+use mathlib.Core.Bool.{Bool, not, cond, _&&_}
 use Prim.Native.Nat.{ℕ, zero, suc}
 use lib.Dec.{ltb}
 use lib.IntN.{ℤ, pos, negsuc}
@@ -138,6 +138,26 @@ spring = net-of 2 2 (0 ∷ 0 ∷ []) ((0 ∷ 1 ∷ []) ∷ (1 ∷ 2 ∷ []) ∷ 
 abbrev pub return : NetMeaning
 return = net-of 3 3 (0 ∷ 1 ∷ 0 ∷ []) ((0 ∷ 1 ∷ 0 ∷ []) ∷ (1 ∷ 0 ∷ 0 ∷ []) ∷ (0 ∷ 0 ∷ 1 ∷ []) ∷ [])
 
+-- step 0 takes from 0 and yields 1 at 1 and at 2; steps 1 and 2 lead back from there
+abbrev pub fork : NetMeaning
+fork = net-of 3 3 (0 ∷ 1 ∷ 2 ∷ []) ((0 ∷ 1 ∷ 1 ∷ []) ∷ (1 ∷ 0 ∷ 0 ∷ []) ∷ (1 ∷ 0 ∷ 0 ∷ []) ∷ [])
+
+-- step 0 goes from 2 to 3, step 1 from 1 to 2, step 2 from 0 to 1
+abbrev pub chain : NetMeaning
+chain = net-of 4 3 (2 ∷ 1 ∷ 0 ∷ []) ((0 ∷ 0 ∷ 0 ∷ 1 ∷ []) ∷ (0 ∷ 0 ∷ 1 ∷ 0 ∷ []) ∷ (0 ∷ 1 ∷ 0 ∷ 0 ∷ []) ∷ [])
+
+-- two places and no step
+abbrev pub still : NetMeaning
+still = net-of 2 0 [] []
+
+-- one place; step 0 gives its block back
+abbrev pub idle : NetMeaning
+idle = net-of 1 1 (0 ∷ []) ((1 ∷ []) ∷ [])
+
+-- step 0 takes from 0 and yields 255 at 1; step 1 takes from 1 and yields nothing
+abbrev pub burst : NetMeaning
+burst = net-of 2 2 (0 ∷ 1 ∷ []) ((0 ∷ 255 ∷ []) ∷ (0 ∷ 0 ∷ []) ∷ [])
+
 -- THE CASES
 
 abbrev pub firing-any-step-sticks : Case
@@ -252,6 +272,54 @@ the-last-block-may-go-where-it-comes-back = record {
   expected = done (0 ∷ 1 ∷ 2 ∷ []) (pos 0 ∷ pos 0 ∷ pos 1 ∷ []) (0 ∷ 1 ∷ 2 ∷ []);
 }
 
+abbrev pub one-block-becomes-two : Case
+one-block-becomes-two = record {
+  net = fork;
+  start = 1 ∷ 0 ∷ 0 ∷ [];
+  tally = 2 ∷ 1 ∷ 1 ∷ [];
+  expected = done (0 ∷ 1 ∷ 0 ∷ 2 ∷ []) (pos 1 ∷ pos 1 ∷ pos 1 ∷ []) (0 ∷ 1 ∷ 0 ∷ 2 ∷ []);
+}
+
+abbrev pub a-chain-leaves-one-order : Case
+a-chain-leaves-one-order = record {
+  net = chain;
+  start = 1 ∷ 0 ∷ 0 ∷ 0 ∷ [];
+  tally = 1 ∷ 1 ∷ 1 ∷ [];
+  expected = done (2 ∷ 1 ∷ 0 ∷ []) (pos 0 ∷ pos 0 ∷ pos 0 ∷ pos 1 ∷ []) (2 ∷ 1 ∷ 0 ∷ []);
+}
+
+abbrev pub a-net-without-steps-keeps-its-blocks : Case
+a-net-without-steps-keeps-its-blocks = record {
+  net = still;
+  start = 3 ∷ 4 ∷ [];
+  tally = [];
+  expected = done [] (pos 3 ∷ pos 4 ∷ []) [];
+}
+
+abbrev pub a-block-given-back-serves-again : Case
+a-block-given-back-serves-again = record {
+  net = idle;
+  start = 1 ∷ [];
+  tally = 4 ∷ [];
+  expected = done (0 ∷ 0 ∷ 0 ∷ 0 ∷ []) (pos 1 ∷ []) (0 ∷ 0 ∷ 0 ∷ 0 ∷ []);
+}
+
+abbrev pub a-block-given-back-must-be-there : Case
+a-block-given-back-must-be-there = record {
+  net = idle;
+  start = 0 ∷ [];
+  tally = 4 ∷ [];
+  expected = cannot (cut-off-at 0) (pos 0 ∷ []) [] (Some 0);
+}
+
+abbrev pub the-largest-yield : Case
+the-largest-yield = record {
+  net = burst;
+  start = 1 ∷ 0 ∷ [];
+  tally = 1 ∷ 2 ∷ [];
+  expected = done (0 ∷ 1 ∷ 1 ∷ []) (pos 0 ∷ pos 253 ∷ []) (0 ∷ 1 ∷ 1 ∷ []);
+}
+
 abbrev pub short-is-named-before-cut-off : Case
 short-is-named-before-cut-off = record {
   net = detour;
@@ -276,6 +344,12 @@ cases =
     ∷ yields-above-one-add-up
     ∷ a-step-that-gives-its-block-back-goes-before-the-last
     ∷ the-last-block-may-go-where-it-comes-back
+    ∷ one-block-becomes-two
+    ∷ a-chain-leaves-one-order
+    ∷ a-net-without-steps-keeps-its-blocks
+    ∷ a-block-given-back-serves-again
+    ∷ a-block-given-back-must-be-there
+    ∷ the-largest-yield
     ∷ short-is-named-before-cut-off
     ∷ []
 

@@ -53,8 +53,10 @@ pub data Reached (N : NetMeaning) (m : Marking) (x : Tally) : ℕ → Type 0 whe
 abbrev pub Cut-off : NetMeaning → Marking → Tally → ℕ → Type 0
 Cut-off N m x p = In-subnet N x p × (Reached N m x p → ⊥)
 
+-- no place of the net is short
 abbrev pub No-place-short : NetMeaning → Marking → Tally → Type 0
 No-place-short N m x = (p : ℕ) → p < N .places → Short N m x p → ⊥
 
+-- no place of the net is cut off
 abbrev pub No-place-cut-off : NetMeaning → Marking → Tally → Type 0
 No-place-cut-off N m x = (p : ℕ) → p < N .places → Cut-off N m x p → ⊥

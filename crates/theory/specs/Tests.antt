@@ -48,9 +48,11 @@ is-reached N m x p = reach N m x (N .places) p
 abbrev pub is-cut-off : NetMeaning → Marking → Tally → ℕ → Bool
 is-cut-off N m x p = in-subnet N x p && not (is-reached N m x p)
 
+-- no place is short
 abbrev pub no-place-short : NetMeaning → Marking → Tally → Bool
 no-place-short N m x = all-below (λ p. not (is-short N m x p)) (N .places)
 
+-- no place is cut off
 abbrev pub no-place-cut-off : NetMeaning → Marking → Tally → Bool
 no-place-cut-off N m x = all-below (λ p. not (is-cut-off N m x p)) (N .places)
 

@@ -5,7 +5,8 @@
 ghost use mathlib.Core.Path.{_≡_};
 ghost use Rattle.theory.specs.Cases.{Cases-hold};
 ghost use Rattle.theory.specs.Laws.{Done-exactly-if, Ends-at-final-numbers, Short-below-zero};
-ghost use Rattle.theory.specs.Laws.{Safe-step-exists, Least-safe-is-first, Computed-is-least-safe, Computed-is-first, First-is-one};
+ghost use Rattle.theory.specs.Laws.{Safe-step-exists, Least-safe-is-first, Computed-is-least-safe, Computed-is-first, First-is-one, First-order-goes-on, First-order-ends};
+ghost use Rattle.theory.specs.Laws.{Firing-keeps-final-numbers, Safe-by-its-input, Closed-set-is-reached};
 ghost use Rattle.theory.specs.Laws.{Earlier-one-way, Earlier-goes-on, Earlier-compares};
 ghost use Rattle.theory.specs.Laws.{Short-decided, Subnet-decided, Reached-decided, Cut-off-decided, Done-decided, Safe-decided, Least-found, None-found};
 ghost use Rattle.theory.specs.Laws.{Can-fire-appended, After-appended, Times-appended, Realizes-appended, Final-numbers-appended, Front-is-first, Rest-is-first};
@@ -30,6 +31,18 @@ pub fn which_order_is_the_first() -> u8
     ensures least { λ _. ⌜ Computed-is-least-safe ⌝ }
     ensures computed { λ _. ⌜ Computed-is-first ⌝ }
     ensures one { λ _. ⌜ First-is-one ⌝ }
+    ensures goes_on { λ _. ⌜ First-order-goes-on ⌝ }
+    ensures ends { λ _. ⌜ First-order-ends ⌝ }
+{
+    0
+}
+
+/// A step is safe by what happens at its input place alone, and any way to find the reached places will do.
+pub fn how_a_safe_step_is_found() -> u8
+    ensures answer { λ r. ⌜ r ≡ 0 ⌝ }
+    ensures finals { λ _. ⌜ Firing-keeps-final-numbers ⌝ }
+    ensures by_its_input { λ _. ⌜ Safe-by-its-input ⌝ }
+    ensures closed_set { λ _. ⌜ Closed-set-is-reached ⌝ }
 {
     0
 }

@@ -1,6 +1,6 @@
 use mathlib.Core.Path.{refl}
 use Rattle.theory.proofs.Decided.{safe-step-exists}
-use Rattle.theory.proofs.FirstOrder.{least-safe-is-first, computed-is-least-safe, computed-is-first, first-is-one}
+use Rattle.theory.proofs.FirstOrder.{least-safe-is-first, computed-is-least-safe, computed-is-first, first-is-one, first-order-goes-on, first-order-ends}
 use Rattle.theory.proofs.which_order_is_the_first.Needs as need
 
 pub returns : need.returns
@@ -12,4 +12,6 @@ returns c =
       least = computed-is-least-safe;
       computed = computed-is-first;
       one = first-is-one;
+      goes-on = first-order-goes-on;
+      ends = first-order-ends;
     }
