@@ -1,7 +1,7 @@
 //! The count board: a number for each place, and spare.
 ghost use mathlib.Core.Path.{_≡_};
-ghost use Prim.Native.Nat.{ℕ, _*_, _≤_};
-ghost use lib.ListN.{length, getD};
+ghost use Prim.Native.Nat.{_*_, _≤_};
+ghost use lib.ListN.{length, replicate};
 ghost use Rattle.theory.specs.Sums.{sumTo};
 ghost use Rattle.boards.specs.Boards.{BoardLaw};
 ghost use Rattle.boards.specs.Rows.{at-place, LoadSays};
@@ -23,7 +23,7 @@ pub struct CountBoard {
 impl CountBoard {
     /// A board with no block and no spare.
     pub fn new() -> CountBoard
-        ensures counts { λ r. ⌜ ((p : ℕ) → at-place (r .counts) p ≡ 0) ⌝ }
+        ensures counts { λ r. ⌜ r .counts ≡ replicate 64 0 ⌝ }
         ensures spare { λ r. ⌜ r .spare ≡ 0 ⌝ }
     {
         CountBoard {
@@ -98,7 +98,8 @@ pub impl Board for CountBoard as CountBoardBoard {
         if n > self.spare {
             return Err(Refusal::PutAboveSpare(place));
         }
-        self.counts[place as usize] += n;
+        let i = place as usize;
+        self.counts[i] += n;
         self.spare -= n;
         Ok(())
     }

@@ -6,10 +6,10 @@ use mathlib.Core.List.{List, [], _∷_}
 use Prim.Native.Nat.{ℕ, zero, suc, _+_, _<_, _≤_}
 use native.Mathlib.Omega.{arith}
 use lib.Dec.{eqb}
-use lib.ListN.{length, getD, drop}
-use Rattle.std.proofs.shelf.Lists.{at-drop-more}
+use lib.ListN.{length, getD}
 use Rattle.std.proofs.shelf.Tests.{cases-eq, eq-eqb, ne-eqb, cond-true, cond-false}
 use Rattle.slot_board.specs.Slots.{occurs, lowest-with}
+use Rattle.slot_board.specs.Passes.{FirstAt}
 use Rattle.slot_board.proofs.Occurs.{is-same, is-other}
 
 lowest-here : (held slot : ℕ) (slots : List ℕ) → slot ≡ held → lowest-with held (slot ∷ slots) ≡ 0
@@ -22,13 +22,21 @@ unfolding lowest-with
 lowest-later held slot slots ne =
     cond-false (eqb slot held) 0 (suc (lowest-with held slots)) (ne-eqb slot held ne)
 
-pub lowest-drop-here : (held : ℕ) (slots : List ℕ) (i : ℕ) → i < length slots → getD slots i 0 ≡ held → lowest-with held (drop i slots) ≡ 0
-lowest-drop-here held slots i h e =
-    at-drop-more (lowest-with held) slots i 0 h ∙ lowest-here held (getD slots i 0) (drop (i + 1) slots) e
+-- the first slot that holds a number is the lowest
+pub first-is-lowest : (held : ℕ) (slots : List ℕ) (i : ℕ) → FirstAt held slots i → i ≡ lowest-with held slots
+first-is-lowest held [] i first = absurd (omega (arith, first .inside))
+first-is-lowest held (slot ∷ slots) zero first =
+    sym (lowest-here held slot slots (first .holds))
+first-is-lowest held (slot ∷ slots) (suc i) first =
+    let rest = first-is-lowest held slots i (record { inside = omega (arith, first .inside); holds = first .holds; before = λ k h. first .before (suc k) (omega arith) }) in
+    omega (arith, rest, lowest-later held slot slots (first .before 0 (omega arith)))
 
-pub lowest-drop-later : (held : ℕ) (slots : List ℕ) (i : ℕ) → i < length slots → (getD slots i 0 ≡ held → ⊥) → lowest-with held (drop i slots) ≡ suc (lowest-with held (drop (i + 1) slots))
-lowest-drop-later held slots i h ne =
-    at-drop-more (lowest-with held) slots i 0 h ∙ lowest-later held (getD slots i 0) (drop (i + 1) slots) ne
+pub holds-occurs : (held : ℕ) (slots : List ℕ) (i : ℕ) → i < length slots → getD slots i 0 ≡ held → 0 < occurs held slots
+unfolding occurs
+holds-occurs held [] i h e = omega arith
+holds-occurs held (slot ∷ slots) zero h e = omega (arith, is-same slot held e)
+holds-occurs held (slot ∷ slots) (suc i) h e =
+    omega (arith, holds-occurs held slots i (omega arith) e)
 
 -- where a number occurs, its lowest slot is a slot
 pub lowest-inside : (held : ℕ) (slots : List ℕ) → 0 < occurs held slots → lowest-with held slots < length slots

@@ -1,11 +1,12 @@
 //! The slot board: 4,096 slots, each empty or with one block of a place.
 ghost use mathlib.Core.Path.{_≡_};
 ghost use Prim.Native.Nat.{ℕ, _≤_, _<_};
-ghost use lib.ListN.{length, getD};
+ghost use lib.ListN.{length, getD, replicate};
 ghost use Rattle.std.specs.Options.{Cases as BySome};
 ghost use Rattle.std.specs.Orderings.{When};
 ghost use Rattle.boards.specs.Boards.{TakeSays, PutSays};
-ghost use Rattle.slot_board.specs.Slots.{occurs, lowest-with, filled, counts-of, slots-after-take, slots-after-put};
+ghost use Rattle.slot_board.specs.Slots.{occurs, counts-of, slots-after-take, slots-after-put};
+ghost use Rattle.slot_board.specs.Passes.{Absent, FirstAt, TakenSlot, PutSlots};
 ghost use Rattle.slot_board.specs.Loads.{SlotsFit, LoadSays};
 use boards::board::Board;
 use boards::board::LAST_PLACE;
@@ -34,8 +35,7 @@ pub struct SlotBoard {
 impl SlotBoard {
     /// A board with every slot empty.
     pub fn new() -> SlotBoard
-        ensures slots { λ r. ⌜ ((k : ℕ) → getD (r .slots) k 0 ≡ 0) ⌝ }
-        ensures long { λ r. ⌜ length (r .slots) ≡ 4096 ⌝ }
+        ensures slots { λ r. ⌜ r .slots ≡ replicate 4096 0 ⌝ }
     {
         SlotBoard {
             slots: [EMPTY; 4096],
@@ -95,19 +95,38 @@ fn count_of(slots: &[u8], held: u8) -> u32
 
 // the lowest slot that holds the number
 fn lowest(slots: &[u8], held: u8) -> Option<usize>
-    ensures { λ r. ⌜ BySome r (occurs held (now (slots .entry)) ≡ 0) (λ i. (i ≡ lowest-with held (now (slots .entry))) × (0 < occurs held (now (slots .entry)))) ⌝ }
+    ensures { λ r. ⌜ BySome r (Absent held (now (slots .entry))) (λ i. FirstAt held (now (slots .entry)) i) ⌝ }
 {
-    for (i, slot) in slots.iter().enumerate() {
-        if *slot == held {
+    for i in 0..slots.len() {
+        if slots[i] == held {
             return Some(i);
         }
     }
     None
 }
 
-// writes the number into n empty slots, from the highest down
-fn fill(slots: &mut [u8], held: u8, n: u32)
-    ensures { λ _. ⌜ now (slots .exit) ≡ filled held n (now (slots .entry)) ⌝ }
+// empties the place's lowest slot; answers false, and changes nothing, where it has none
+fn empty_lowest(slots: &mut [u8], place: u8) -> bool
+    requires fit { ⌜ SlotsFit (now slots) ⌝ }
+    requires inside { ⌜ place ≤ 63 ⌝ }
+    ensures fit { λ _. ⌜ SlotsFit (now (slots .exit)) ⌝ }
+    ensures few { λ _. ⌜ occurs 0 (now (slots .exit)) ≤ 4096 ⌝ }
+    ensures cases { λ r. ⌜ When r (TakenSlot place (now (slots .entry)) (now (slots .exit))) ((counts-of (now (slots .entry)) place ≡ 0) × (now (slots .exit) ≡ now (slots .entry))) ⌝ }
+{
+    let Some(i) = lowest(slots, place + 1) else {
+        return false;
+    };
+    slots[i] = EMPTY;
+    true
+}
+
+// puts n blocks of the place into empty slots, from the highest down
+fn fill_highest(slots: &mut [u8], place: u8, n: u32)
+    requires fit { ⌜ SlotsFit (now slots) ⌝ }
+    requires inside { ⌜ place ≤ 63 ⌝ }
+    requires enough { ⌜ n ≤ occurs 0 (now slots) ⌝ }
+    ensures fit { λ _. ⌜ SlotsFit (now (slots .exit)) ⌝ }
+    ensures moved { λ _. ⌜ PutSlots place n (now (slots .entry)) (now (slots .exit)) ⌝ }
 {
     let mut left = n;
     for i in (0..slots.len()).rev() {
@@ -115,7 +134,7 @@ fn fill(slots: &mut [u8], held: u8, n: u32)
             return;
         }
         if slots[i] == EMPTY {
-            slots[i] = held;
+            slots[i] = place + 1;
             left -= 1;
         }
     }
@@ -144,10 +163,9 @@ pub impl Board for SlotBoard as SlotBoardBoard {
         if place > LAST_PLACE {
             return Err(Refusal::NoSuchPlace);
         }
-        let Some(i) = lowest(&self.slots, place + 1) else {
+        if !empty_lowest(&mut self.slots, place) {
             return Err(Refusal::PlaceEmpty(place));
-        };
-        self.slots[i] = EMPTY;
+        }
         self.free += 1;
         Ok(())
     }
@@ -162,7 +180,7 @@ pub impl Board for SlotBoard as SlotBoardBoard {
         if n > self.free {
             return Err(Refusal::PutAboveSpare(place));
         }
-        fill(&mut self.slots, place + 1, n);
+        fill_highest(&mut self.slots, place, n);
         self.free -= n;
         Ok(())
     }

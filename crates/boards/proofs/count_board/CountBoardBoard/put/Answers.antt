@@ -1,8 +1,7 @@
 use mathlib.Core.Path.{_∙_}
 use native.Mathlib.Omega.{arith}
-use Prim.Native.Nat.{_+_}
-use lib.ListN.{length-set, getD}
-use Rattle.boards.proofs.RowSums.{row-set, row-at}
+use lib.ListN.{length-set}
+use Rattle.boards.proofs.RowSums.{law-after, row-at}
 use Rattle.boards.proofs.count_board.CountBoardBoard.put.Needs as need
 
 pub add-self : need.add-self
@@ -13,5 +12,4 @@ add-self c =
 pub ghost-self : need.ghost-self
 ghost-self c =
     let b = c .args .self .now in
-    let p = c .args .place in
-    (length-set (b .counts) p _ ∙ b .long, (omega (arith, b .lawful, row-set (b .counts) p (getD (b .counts) p 0 + c .args .n) (b .long) (omega arith)), tt))
+    (length-set (b .counts) _ _ ∙ b .long, (law-after (b .counts) _ _ (b .spare) _ (b .long) (omega arith) (omega arith) (b .lawful), tt))

@@ -5,21 +5,29 @@ use lib.ListN.{length, getD, set, drop}
 use Rattle.slot_board.specs.Slots.{occurs}
 use Rattle.slot_board.proofs.Occurs.{is-same, is-other, occurs-drop-more, occurs-drop-all}
 use Rattle.slot_board.proofs.FillTurns.{done-from, done-none, next-slot, turn-fills, turn-keeps, done-enough}
-use Rattle.slot_board.proofs.fill.Needs as need
+use Rattle.slot_board.proofs.Moves.{put-slots, filled-fit}
+use Rattle.slot_board.proofs.fill_highest.Needs as need
 
 pub loop-i-holds : need.loop-i-holds
 loop-i-holds c =
     let slots = c .args .slots .now in
-    (done-none (c .args .held) (c .args .n) slots, omega (arith, occurs-drop-all 0 slots (length slots) (omega arith)))
+    (done-none (c .args .place + 1) (c .args .n) slots, omega (arith, occurs-drop-all 0 slots (length slots) (omega arith)))
 
 pub returns-then-left-eq0 : need.returns-then-left-eq0
 returns-then-left-eq0 c =
-    c .loop-i .inv .0 ∙ done-enough (c .args .held) (c .args .n) (c .loop-i .i) (c .args .slots .now) (omega (arith, c .loop-i .inv .1))
+    let slots = c .args .slots .now in
+    let place = c .args .place in
+    let n = c .args .n in
+    let same = c .loop-i .inv .0 ∙ done-enough (place + 1) n (c .loop-i .i) slots (omega (arith, c .loop-i .inv .1)) in
+    record {
+      fit = filled-fit place n slots (c .loop-i .slots) (c .pre .inside) (c .pre .fit) same;
+      moved = put-slots place n slots (c .loop-i .slots) (c .pre .inside) (c .pre .enough) same;
+    }
 
 pub loop-i-again-then-slots-i-eq-EMPTY : need.loop-i-again-then-slots-i-eq-EMPTY
 loop-i-again-then-slots-i-eq-EMPTY c =
     let slots = c .args .slots .now in
-    let held = c .args .held in
+    let held = c .args .place + 1 in
     let n = c .args .n in
     let inv = c .loop-i .inv in
     let j = c .loop-i .i - 1 in
@@ -35,7 +43,7 @@ loop-i-again-then-slots-i-eq-EMPTY c =
 pub loop-i-again : need.loop-i-again
 loop-i-again c =
     let slots = c .args .slots .now in
-    let held = c .args .held in
+    let held = c .args .place + 1 in
     let n = c .args .n in
     let inv = c .loop-i .inv in
     let j = c .loop-i .i - 1 in
@@ -49,5 +57,12 @@ loop-i-again c =
 
 pub returns : need.returns
 returns c =
+    let slots = c .args .slots .now in
+    let place = c .args .place in
+    let n = c .args .n in
     let none : c .loop-i .i ≡ 0 = omega arith in
-    c .loop-i .inv .0 ∙ ap (λ k. done-from (c .args .held) (c .args .n) k (c .args .slots .now)) none
+    let same = c .loop-i .inv .0 ∙ ap (λ k. done-from (place + 1) n k slots) none in
+    record {
+      fit = filled-fit place n slots (c .loop-i .slots) (c .pre .inside) (c .pre .fit) same;
+      moved = put-slots place n slots (c .loop-i .slots) (c .pre .inside) (c .pre .enough) same;
+    }
