@@ -28,13 +28,6 @@ impl<B: Board> Allowance<B> {
         }
     }
 
-    /// How many blocks it still allows to be put down.
-    pub fn left(&self) -> u32
-        ensures answer { λ r. ⌜ r ≡ now (self .entry) .left ⌝ }
-    {
-        self.left
-    }
-
     /// Gives the board below back.
     pub fn into_inner(self) -> B
         ensures below { λ r. ⌜ r ≡ self .below ⌝ }

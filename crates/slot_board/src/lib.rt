@@ -60,7 +60,7 @@ impl SlotBoard {
     pub fn slots(&self) -> &[u8]
         ensures answer { λ r. ⌜ now r ≡ now (self .entry) .slots ⌝ }
     {
-        &self.slots
+        self.slots.as_slice()
     }
 }
 
