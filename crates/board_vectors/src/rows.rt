@@ -28,7 +28,7 @@ pub fn read(heap: Global, asked: &str) -> Result<Row, AllocError> {
             Err(_) => return Ok(new_board(asked)),
         }
     }
-    row(heap, first, numbers.as_slice())
+    row_of(heap, first, numbers.as_slice())
 }
 
 fn new_board(asked: &str) -> Row {
@@ -39,7 +39,7 @@ fn new_board(asked: &str) -> Row {
     }
 }
 
-fn row(heap: Global, first: &str, numbers: &[u32]) -> Result<Row, AllocError> {
+fn row_of(heap: Global, first: &str, numbers: &[u32]) -> Result<Row, AllocError> {
     let row = match (first, numbers) {
         ("counts", [spare, row @ ..]) => Row::Counts(*spare, row.to_vec(heap)?),
         ("slots", runs) => Row::Slots(slots_of(heap, runs)?),

@@ -8,6 +8,7 @@ use calls::all_counts;
 use std::alloc::AllocError;
 use std::alloc::Global;
 use std::error::AnyError;
+use std::io;
 
 #[derive(Drop)]
 pub struct Table<'a> {
@@ -58,8 +59,7 @@ impl<'a> Table<'a> {
         if here.as_str() == line {
             self.agreed = self.agreed.wrapping_add(1);
         } else {
-            println!(self.rt, "the table has {line}")?;
-            println!(self.rt, "but here it is {here}")?;
+            disagree(self.rt, line, here.as_str())?;
         }
         self.at = self.at.wrapping_add(1);
         Ok(())
@@ -74,6 +74,12 @@ impl<'a> Table<'a> {
         println!(self.rt, "{agreed} lines agree")?;
         Ok(())
     }
+}
+
+// prints a line of the table and what the boards here make of it
+fn disagree(rt: &LibcRuntime, line: &str, here: &str) -> io::Result<()> {
+    println!(rt, "the table has {line}")?;
+    println!(rt, "but here it is {here}")
 }
 
 // the part of a line that says what is called
