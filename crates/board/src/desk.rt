@@ -2,6 +2,7 @@
 use crate::lines;
 use crate::lines::Line;
 use boards::board::Board;
+use boards::board::PLACES;
 use calls::Answer;
 use calls::AnswerDisplay;
 use calls::all_counts;
@@ -18,7 +19,7 @@ pub struct Desk<'a> {
     rt: &'a LibcRuntime,
     lines: &'a [&'a str],
     at: usize,
-    counts: [u32; 64],
+    counts: [u32; PLACES],
     spare: u32,
 }
 
@@ -28,7 +29,7 @@ impl<'a> Desk<'a> {
             rt,
             lines,
             at: 0,
-            counts: [0; 64],
+            counts: [0; PLACES],
             spare: 0,
         }
     }
@@ -70,7 +71,7 @@ impl<'a> Desk<'a> {
         print_answer(self.rt, answer)?;
         let counts = all_counts(board);
         let spare = board.spare();
-        for place in 0..64usize {
+        for place in 0..PLACES {
             if counts[place] != self.counts[place] {
                 print_change(self.rt, place, self.counts[place], counts[place])?;
             }

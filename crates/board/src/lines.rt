@@ -1,4 +1,5 @@
 //! The lines of a board script: what each one asks for.
+use boards::board::LAST_PLACE;
 use boards::board::PLACES;
 use calls::Call;
 use slot_board::SLOTS;
@@ -95,7 +96,7 @@ fn renaming(heap: Global, words: &[&str]) -> Result<Line, AllocError> {
     let Some(mut row) = bytes(heap, words)? else {
         return Ok(Line::Unknown);
     };
-    for place in 0..64u8 {
+    for place in 0..=LAST_PLACE {
         if row.len() <= place as usize {
             row.push(place)?;
         }

@@ -14,7 +14,7 @@ use refusals::Refusal;
 /// A board that keeps the 64 counts and spare as numbers.
 #[derive(Drop)]
 pub struct CountBoard {
-    counts: [u32; 64],
+    counts: [u32; PLACES],
     spare: u32,
     ghost long: { length counts ≡ 64 },
     ghost lawful: { BoardLaw (at-place counts) spare },
@@ -27,7 +27,7 @@ impl CountBoard {
         ensures spare { λ r. ⌜ r .spare ≡ 0 ⌝ }
     {
         CountBoard {
-            counts: [0; 64],
+            counts: [0; PLACES],
             spare: 0,
         }
     }

@@ -5,6 +5,8 @@ ghost use lib.ListN.{getD};
 ghost use Rattle.std.specs.declared.option.Option.the-variants.{Some};
 ghost use Rattle.calls.specs.Calls.{Performed, answered, shown-answer};
 use boards::board::Board;
+use boards::board::LAST_PLACE;
+use boards::board::PLACES;
 use refusals::Refusal;
 use std::fmt;
 
@@ -39,11 +41,11 @@ pub fn perform<B: Board>(board: &mut B, call: Call) -> Answer
 }
 
 /// The counts of the 64 places.
-pub fn all_counts<B: Board>(board: &B) -> [u32; 64]
+pub fn all_counts<B: Board>(board: &B) -> [u32; PLACES]
     ensures answer { λ r. ⌜ ((p : ℕ) → p < 64 → getD r p 0 ≡ counts (now (board .entry)) p) ⌝ }
 {
-    let mut counts = [0u32; 64];
-    for place in 0..64u8 {
+    let mut counts = [0u32; PLACES];
+    for place in 0..=LAST_PLACE {
         counts[place as usize] = board.count(place);
     }
     counts

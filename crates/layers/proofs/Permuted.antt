@@ -1,24 +1,17 @@
 -- The sum over a permutation of the places is the same sum.
 use mathlib.Core.Path.{_≡_, refl, sym, ap, _∙_}
-use mathlib.Core.Logic.{_⊎_, inl, inr, ⊎-elim}
-use mathlib.Core.Bool.{cond}
-use Prim.Native.Nat.{ℕ, zero, suc, _+_, _-_, _*_, _<_, _≤_}
+use mathlib.Core.Logic.{⊎-elim}
+use Prim.Native.Nat.{ℕ, zero, suc, _*_, _<_, _≤_}
 use native.Mathlib.Omega.{arith}
 use native.Mathlib.Nat.{mul-one, mul-add, mul-zero}
-use lib.Dec.{eqb}
-use Rattle.std.proofs.shelf.Tests.{cases-eq, eq-eqb, ne-eqb, cond-true, cond-false}
+use Rattle.std.proofs.shelf.Tests.{cases-eq}
 use Rattle.theory.specs.Sums.{sumTo}
 use Rattle.boards.specs.Boards.{at}
+use Rattle.boards.proofs.AtPlace.{at-same, at-other}
 use Rattle.theory.proofs.SumLaws.{sumTo-same, sumTo-none, sumTo-mono, sumTo-swap}
 
-pub at-same : (a b n : ℕ) → a ≡ b → at a b n ≡ n
-at-same a b n e = cond-true (eqb a b) n 0 (eq-eqb a b e)
-
-pub at-other : (a b n : ℕ) → (a ≡ b → ⊥) → at a b n ≡ 0
-at-other a b n ne = cond-false (eqb a b) n 0 (ne-eqb a b ne)
-
 -- one place of all has a value
-pub sumTo-one : (a : ℕ) (f : ℕ → ℕ) (n : ℕ) → a < n → sumTo (λ q. at a q (f q)) n ≡ f a
+sumTo-one : (a : ℕ) (f : ℕ → ℕ) (n : ℕ) → a < n → sumTo (λ q. at a q (f q)) n ≡ f a
 unfolding sumTo
 sumTo-one a f zero h = omega arith
 sumTo-one a f (suc n) h =
@@ -27,15 +20,17 @@ sumTo-one a f (suc n) h =
     (λ (ne : a ≡ n → ⊥). omega (arith, sumTo-one a f n (omega arith), at-other a n (f n) ne))
     (cases-eq a n)
 
-pub sumTo-const : (n : ℕ) → sumTo (λ _. 1) n ≡ n
+-- as many ones as there are places
+sumTo-const : (n : ℕ) → sumTo (λ _. 1) n ≡ n
 unfolding sumTo
 sumTo-const zero = refl
 sumTo-const (suc n) = omega (arith, sumTo-const n)
 
 -- how many places below n go to q
-pub goes : (ℕ → ℕ) → ℕ → ℕ → ℕ
+goes : (ℕ → ℕ) → ℕ → ℕ → ℕ
 goes m q n = sumTo (λ p. at (m p) q 1) n
 
+-- x once for each place that goes to q
 times-goes : (m : ℕ → ℕ) (q x n : ℕ) → sumTo (λ p. at (m p) q x) n ≡ x * goes m q n
 unfolding sumTo goes
 times-goes m q x zero = sym (mul-zero x)
@@ -45,9 +40,7 @@ times-goes m q x (suc n) =
     (λ (ne : m n ≡ q → ⊥). omega (arith, times-goes m q x n, at-other (m n) q x ne, mul-add x (goes m q n) (at (m n) q 1), ap (λ z. x * z) (at-other (m n) q 1 ne), mul-zero x))
     (cases-eq (m n) q)
 
-Apart : (ℕ → ℕ) → ℕ → Type 0
-Apart m n = (p q : ℕ) → p < n → q < n → m p ≡ m q → p ≡ q
-
+-- no two places go to one
 goes-le : (m : ℕ → ℕ) (q n : ℕ) → ((a b : ℕ) → a < n → b < n → m a ≡ m b → a ≡ b) → goes m q n ≤ 1
 unfolding sumTo goes
 goes-le m q zero d = omega arith
@@ -59,6 +52,7 @@ goes-le m q (suc n) d =
     omega (arith, at-other (m n) q 1 ne, goes-le m q n (λ a b h k. d a b (omega arith) (omega arith))))
     (cases-eq (m n) q)
 
+-- numbers of at most 1 that add up to how many they are, are all 1
 all-one : (g : ℕ → ℕ) (n : ℕ) → ((q : ℕ) → q < n → g q ≤ 1) → sumTo g n ≡ n → (q : ℕ) → q < n → g q ≡ 1
 unfolding sumTo
 all-one g zero le e q h = omega arith
@@ -70,6 +64,7 @@ all-one g (suc n) le e q h =
     (λ (ne : q ≡ n → ⊥). all-one g n (λ p l. le p (omega arith)) (omega arith) q (omega arith))
     (cases-eq q n)
 
+-- the sum is the same in another sequence
 pub sumTo-permuted :
     (m f : ℕ → ℕ) (n : ℕ) → ((p : ℕ) → p < n → m p < n) → ((a b : ℕ) → a < n → b < n → m a ≡ m b → a ≡ b) →
     sumTo (λ p. f (m p)) n ≡ sumTo f n

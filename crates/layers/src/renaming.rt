@@ -14,7 +14,7 @@ use refusals::Refusal;
 #[derive(Drop)]
 pub struct Renaming<B: Board> {
     below: B,
-    row: [u8; 64],
+    row: [u8; PLACES],
     ghost long: { length row ≡ 64 },
     ghost inside: { (p : ℕ) → p < 64 → getD row p 0 < 64 },
     ghost apart: { (p q : ℕ) → (p < 64) × (q < 64) × (getD row p 0 ≡ getD row q 0) → p ≡ q },
@@ -26,8 +26,8 @@ impl<B: Board> Renaming<B> {
         ensures below { λ r. ⌜ r .below ≡ below ⌝ }
         ensures row { λ r. ⌜ ((p : ℕ) → p < 64 → getD (r .row) p 0 ≡ p) ⌝ }
     {
-        let mut row = [0u8; 64];
-        for p in 0..64u8 {
+        let mut row = [0u8; PLACES];
+        for p in 0..=LAST_PLACE {
             row[p as usize] = p;
         }
         Renaming { below, row }
@@ -61,7 +61,7 @@ fn is_renaming(row: &[u8]) -> bool
     if row.len() != PLACES {
         return false;
     }
-    let mut seen = [false; 64];
+    let mut seen = [false; PLACES];
     for place in row {
         if *place > LAST_PLACE || seen[*place as usize] {
             return false;

@@ -4,23 +4,17 @@ use mathlib.Core.Logic.{⊎-elim}
 use mathlib.Core.List.{List}
 use Prim.Native.Nat.{ℕ, _+_, _-_, _<_, _≤_}
 use native.Mathlib.Omega.{arith}
-use lib.Dec.{eqb}
 use lib.ListN.{length, getD, set}
 use Rattle.std.proofs.shelf.Lists.{length-set, getD-set-same, getD-set-other}
-use Rattle.std.proofs.shelf.Tests.{cases-eq, eq-eqb, ne-eqb, cond-true, cond-false}
-use Rattle.boards.specs.Boards.{at, Taken, Put}
+use Rattle.std.proofs.shelf.Tests.{cases-eq}
+use Rattle.boards.specs.Boards.{Taken, Put}
+use Rattle.boards.proofs.AtPlace.{at-same, at-other}
 use Rattle.slot_board.specs.Slots.{occurs, lowest-with, filled, counts-of}
 use Rattle.slot_board.specs.Loads.{SlotsFit}
 use Rattle.slot_board.specs.Passes.{FirstAt, TakenSlot, PutSlots}
 use Rattle.slot_board.proofs.Occurs.{is, is-same, is-other, occurs-set}
 use Rattle.slot_board.proofs.LowestSlot.{first-is-lowest, holds-occurs, lowest-inside, lowest-holds}
 use Rattle.slot_board.proofs.Filled.{length-filled, filled-small, occurs-filled-empty, occurs-filled-held, occurs-filled-other}
-
-at-same : (place p n : ℕ) → place ≡ p → at place p n ≡ n
-at-same place p n e = cond-true (eqb place p) n 0 (eq-eqb place p e)
-
-at-other : (place p n : ℕ) → (place ≡ p → ⊥) → at place p n ≡ 0
-at-other place p n ne = cond-false (eqb place p) n 0 (ne-eqb place p ne)
 
 emptied-occurs : (place held : ℕ) (slots : List ℕ) → 0 < counts-of slots place → occurs held (set slots (lowest-with (place + 1) slots) 0) + is (place + 1) held ≡ occurs held slots + is 0 held
 emptied-occurs place held slots some =

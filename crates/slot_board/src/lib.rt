@@ -24,7 +24,7 @@ const HIGHEST: u8 = 64;
 /// A board that keeps each block in a slot: 0 for an empty slot, or the place of its block and 1.
 #[derive(Drop)]
 pub struct SlotBoard {
-    slots: [u8; 4096],
+    slots: [u8; SLOTS],
     // how many slots are empty, kept so that spare and put need not count them
     free: u32,
     ghost long: { length slots ≡ 4096 },
@@ -38,8 +38,8 @@ impl SlotBoard {
         ensures slots { λ r. ⌜ r .slots ≡ replicate 4096 0 ⌝ }
     {
         SlotBoard {
-            slots: [EMPTY; 4096],
-            free: 4096,
+            slots: [EMPTY; SLOTS],
+            free: SLOTS as u32,
         }
     }
 
