@@ -28,12 +28,23 @@ pub fn code(text: &str) -> &str {
 // what a line asks for, from its words
 pub fn read(heap: Global, text: &str) -> Result<Line, AllocError> {
     let words = code(text).split_whitespace().collect::<Vec<&str>>(heap)?;
-    match words.as_slice() {
-        [] => Ok(Line::Nothing),
-        ["load", "count", row @ .., "spare", spare] => counts(heap, row, spare),
-        ["load", "slots", row @ ..] => slots(heap, row),
-        ["rename", row @ ..] => renaming(heap, row),
-        words => Ok(short_line(words)),
+    let words = words.as_slice();
+    let Some((first, rest)) = words.split_first() else {
+        return Ok(Line::Nothing);
+    };
+    match *first {
+        "load" => load(heap, rest),
+        "rename" => renaming(heap, rest),
+        _ => Ok(short_line(words)),
+    }
+}
+
+// a row of a count board, which ends in its spare, or of a slot board
+fn load(heap: Global, words: &[&str]) -> Result<Line, AllocError> {
+    match words.split_first() {
+        Some((make, row)) if *make == "count" => counts(heap, row),
+        Some((make, row)) if *make == "slots" => slots(heap, row),
+        _ => Ok(Line::Unknown),
     }
 }
 
@@ -62,11 +73,17 @@ fn short_line(words: &[&str]) -> Line {
     line
 }
 
-// counts for the first places; the others are empty
-fn counts(heap: Global, words: &[&str], spare: &str) -> Result<Line, AllocError> {
-    let Ok(spare) = spare.parse::<u32>() else {
+// counts for the first places, then the word spare and a number; the other places are empty
+fn counts(heap: Global, words: &[&str]) -> Result<Line, AllocError> {
+    let Some((spare, words)) = words.split_last() else {
         return Ok(Line::Unknown);
     };
+    let (Ok(spare), Some((word, words))) = (spare.parse::<u32>(), words.split_last()) else {
+        return Ok(Line::Unknown);
+    };
+    if *word != "spare" {
+        return Ok(Line::Unknown);
+    }
     let mut row = Vec::new(heap);
     for word in words {
         match word.parse::<u32>() {
