@@ -15,7 +15,7 @@ use std::io;
 const WIDEST: u32 = 40;
 
 #[derive(Drop)]
-pub struct Desk<'a> {
+pub(crate) struct Desk<'a> {
     rt: &'a LibcRuntime,
     lines: &'a [&'a str],
     at: usize,
@@ -24,7 +24,7 @@ pub struct Desk<'a> {
 }
 
 impl<'a> Desk<'a> {
-    pub fn new(rt: &'a LibcRuntime, lines: &'a [&'a str]) -> Desk<'a> {
+    pub(crate) fn new(rt: &'a LibcRuntime, lines: &'a [&'a str]) -> Desk<'a> {
         Desk {
             rt,
             lines,
@@ -35,7 +35,7 @@ impl<'a> Desk<'a> {
     }
 
     // how many lines are left
-    pub fn left(&self) -> usize {
+    pub(crate) fn left(&self) -> usize {
         self.lines.len().saturating_sub(self.at)
     }
 
@@ -48,17 +48,17 @@ impl<'a> Desk<'a> {
     }
 
     // what the next line asks for
-    pub fn line(&self) -> Result<Line, AllocError> {
+    pub(crate) fn line(&self) -> Result<Line, AllocError> {
         lines::read(self.rt.alloc(), self.text())
     }
 
     // leaves a line that asks for nothing
-    pub fn skip(&mut self) {
+    pub(crate) fn skip(&mut self) {
         self.at = self.at.wrapping_add(1);
     }
 
     // prints the next line with the words, and leaves it
-    pub fn say(&mut self, words: &str) -> Result<(), AnyError> {
+    pub(crate) fn say(&mut self, words: &str) -> Result<(), AnyError> {
         print_line(self.rt, lines::code(self.text()))?;
         println!(self.rt, "  {words}")?;
         self.skip();
@@ -66,7 +66,7 @@ impl<'a> Desk<'a> {
     }
 
     // prints the next line with its answer and what it changed, and leaves it
-    pub fn show<B: Board>(&mut self, board: &B, answer: Answer) -> Result<(), AnyError> {
+    pub(crate) fn show<B: Board>(&mut self, board: &B, answer: Answer) -> Result<(), AnyError> {
         print_line(self.rt, lines::code(self.text()))?;
         print_answer(self.rt, answer)?;
         let counts = all_counts(board);

@@ -7,7 +7,7 @@ use std::alloc::AllocError;
 use std::alloc::Global;
 
 #[derive(Drop)]
-pub enum Line {
+pub(crate) enum Line {
     Nothing,
     LoadCounts(Vec<u32>, u32),
     LoadSlots(Vec<u8>),
@@ -18,7 +18,7 @@ pub enum Line {
 }
 
 // a line without its comment and the spaces around it
-pub fn code(text: &str) -> &str {
+pub(crate) fn code(text: &str) -> &str {
     match text.split_once('#') {
         Some((before, _)) => before.trim(),
         None => text.trim(),
@@ -26,7 +26,7 @@ pub fn code(text: &str) -> &str {
 }
 
 // what a line asks for, from its words
-pub fn read(heap: Global, text: &str) -> Result<Line, AllocError> {
+pub(crate) fn read(heap: Global, text: &str) -> Result<Line, AllocError> {
     let words = code(text).split_whitespace().collect::<Vec<&str>>(heap)?;
     let words = words.as_slice();
     let Some((first, rest)) = words.split_first() else {

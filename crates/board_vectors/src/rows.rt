@@ -4,7 +4,7 @@ use std::alloc::AllocError;
 use std::alloc::Global;
 
 #[derive(Drop)]
-pub enum Row {
+pub(crate) enum Row {
     NewCounts,
     NewSlots,
     Counts(u32, Vec<u32>),
@@ -16,7 +16,7 @@ pub enum Row {
 }
 
 // reads what a line asks for: a word, then numbers
-pub fn read(heap: Global, asked: &str) -> Result<Row, AllocError> {
+pub(crate) fn read(heap: Global, asked: &str) -> Result<Row, AllocError> {
     let mut words = asked.split_whitespace();
     let Some(first) = words.next() else {
         return Ok(Row::Unknown);

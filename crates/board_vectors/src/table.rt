@@ -11,7 +11,7 @@ use std::error::AnyError;
 use std::io;
 
 #[derive(Drop)]
-pub struct Table<'a> {
+pub(crate) struct Table<'a> {
     rt: &'a LibcRuntime,
     lines: &'a [&'a str],
     at: usize,
@@ -19,7 +19,7 @@ pub struct Table<'a> {
 }
 
 impl<'a> Table<'a> {
-    pub fn new(rt: &'a LibcRuntime, lines: &'a [&'a str]) -> Table<'a> {
+    pub(crate) fn new(rt: &'a LibcRuntime, lines: &'a [&'a str]) -> Table<'a> {
         Table {
             rt,
             lines,
@@ -28,12 +28,12 @@ impl<'a> Table<'a> {
         }
     }
 
-    pub fn heap(&self) -> Global {
+    pub(crate) fn heap(&self) -> Global {
         self.rt.alloc()
     }
 
     // how many lines are left
-    pub fn left(&self) -> usize {
+    pub(crate) fn left(&self) -> usize {
         self.lines.len().saturating_sub(self.at)
     }
 
@@ -46,12 +46,12 @@ impl<'a> Table<'a> {
     }
 
     // what the next line asks for
-    pub fn row(&self) -> Result<Row, AllocError> {
+    pub(crate) fn row(&self) -> Result<Row, AllocError> {
         rows::read(self.heap(), asked(self.line()))
     }
 
     // compares the next line with the answer here and with the counts and spare after it
-    pub fn compare<B: Board>(&mut self, board: &B, answer: Answer) -> Result<(), AnyError> {
+    pub(crate) fn compare<B: Board>(&mut self, board: &B, answer: Answer) -> Result<(), AnyError> {
         let line = self.line();
         let call = asked(line);
         let state = digest_with(digest(&all_counts(board)), board.spare());
@@ -65,7 +65,7 @@ impl<'a> Table<'a> {
         Ok(())
     }
 
-    pub fn report(&self) -> Result<(), AnyError> {
+    pub(crate) fn report(&self) -> Result<(), AnyError> {
         let agreed = self.agreed;
         let left = self.left();
         if left > 0 {
@@ -91,7 +91,7 @@ fn asked(line: &str) -> &str {
 }
 
 // one number for a list of numbers: FNV-1a of 32 bits over their four bytes, low byte first
-pub fn digest(numbers: &[u32]) -> u32 {
+pub(crate) fn digest(numbers: &[u32]) -> u32 {
     let mut value = 2_166_136_261;
     for number in numbers {
         value = digest_with(value, *number);

@@ -1,6 +1,6 @@
 -- The slots with n empty ones filled, from the highest down.
 use mathlib.Core.Path.{_≡_, refl, sym, ap, _∙_}
-use mathlib.Core.Logic.{⊎-elim}
+use mathlib.Core.Logic.{_⊎_, inl, inr, ⊎-elim}
 use mathlib.Core.Bool.{cond, _&&_}
 use mathlib.Core.List.{List, [], _∷_, _++_}
 use Prim.Native.Nat.{ℕ, zero, suc, _+_, _-_, _<_, _≤_, min}
@@ -9,6 +9,8 @@ use lib.Dec.{eqb, ltb}
 use lib.ListN.{length, getD, drop, take, set}
 use Rattle.std.proofs.shelf.Tests.{cases-eq, cases-lt, eq-eqb, ne-eqb, lt-ltb, le-ltb, cond-true, cond-false, cond-both, and-from, and-left, and-right}
 use Rattle.slot_board.specs.Slots.{occurs, filled}
+use Rattle.slot_board.specs.Passes.{HighestFilled}
+use Rattle.slot_board.proofs.LowestSlot.{holds-occurs}
 use Rattle.slot_board.proofs.Occurs.{is-same, is-other, occurs-none, occurs-cons}
 
 pub filled-none : (held n : ℕ) → filled held n [] ≡ []
@@ -103,3 +105,43 @@ pub filled-front : (held n : ℕ) (front slots : List ℕ) → n ≤ occurs 0 sl
 filled-front held n [] slots h = refl
 filled-front held n (slot ∷ front) slots h =
     filled-enough held n slot (front ++ slots) (omega (arith, h, occurs-append 0 front slots)) ∙ ap (λ xs. slot ∷ xs) (filled-front held n front slots h)
+
+-- what the definition says of one slot after another
+highest-filled-blocks : (held n : ℕ) (slots : List ℕ) (k : ℕ) → (getD slots k 0 ≡ 0 → ⊥) → getD (filled held n slots) k 0 ≡ getD slots k 0
+unfolding filled
+highest-filled-blocks held n [] k block = absurd (block refl)
+highest-filled-blocks held n (slot ∷ slots) zero block =
+    ap (λ xs. getD xs 0 0) (filled-block held n slot slots block)
+highest-filled-blocks held n (slot ∷ slots) (suc k) block = highest-filled-blocks held n slots k block
+
+highest-filled-empty : (held n : ℕ) (slots : List ℕ) (k : ℕ) → getD slots k 0 ≡ 0 → (getD (filled held n slots) k 0 ≡ 0) ⊎ (getD (filled held n slots) k 0 ≡ held)
+unfolding filled
+highest-filled-empty held n [] k e = inl (ap (λ xs. getD xs k 0) (filled-none held n))
+highest-filled-empty held n (slot ∷ slots) zero e =
+    ⊎-elim
+    (λ (h : occurs 0 slots < n). inr (ap (λ xs. getD xs 0 0) (filled-here held n slot slots e h)))
+    (λ h. inl (ap (λ xs. getD xs 0 0) (filled-enough held n slot slots h) ∙ e))
+    (cases-lt (occurs 0 slots) n)
+highest-filled-empty held n (slot ∷ slots) (suc k) e = highest-filled-empty held n slots k e
+
+-- a slot that is still empty has enough empty ones at or above it
+still-empty : (held n : ℕ) (slots : List ℕ) (k : ℕ) → (held ≡ 0 → ⊥) → k < length slots → getD (filled held n slots) k 0 ≡ 0 → n ≤ occurs 0 slots
+still-empty held n slots k some h e =
+    omega (arith, occurs-filled-empty held n slots some, holds-occurs 0 (filled held n slots) k (omega (arith, length-filled held n slots)) e)
+
+highest-filled-top : (held n : ℕ) (slots : List ℕ) (j k : ℕ) → (held ≡ 0 → ⊥) → j < k → k < length slots → getD (filled held n slots) k 0 ≡ 0 → getD (filled held n slots) j 0 ≡ getD slots j 0
+unfolding filled
+highest-filled-top held n [] j k some l h e = omega arith
+highest-filled-top held n (slot ∷ slots) j zero some l h e = omega arith
+highest-filled-top held n (slot ∷ slots) zero (suc k) some l h e =
+    ap (λ xs. getD xs 0 0) (filled-enough held n slot slots (still-empty held n slots k some (omega arith) e))
+highest-filled-top held n (slot ∷ slots) (suc j) (suc k) some l h e =
+    highest-filled-top held n slots j k some (omega arith) (omega arith) e
+
+pub highest-filled : (held n : ℕ) (slots : List ℕ) → (held ≡ 0 → ⊥) → HighestFilled held slots (filled held n slots)
+highest-filled held n slots some =
+    record {
+      blocks-kept = highest-filled-blocks held n slots;
+      empty-or-held = highest-filled-empty held n slots;
+      from-the-top = λ j k l h e. highest-filled-top held n slots j k some l h e;
+    }

@@ -11,10 +11,10 @@ use Rattle.boards.specs.Boards.{Taken, Put}
 use Rattle.boards.proofs.AtPlace.{at-same, at-other}
 use Rattle.slot_board.specs.Slots.{occurs, lowest-with, filled, counts-of}
 use Rattle.slot_board.specs.Loads.{SlotsFit}
-use Rattle.slot_board.specs.Passes.{FirstAt, TakenSlot, PutSlots}
+use Rattle.slot_board.specs.Passes.{FirstAt, HighestFilled, TakenSlot, PutSlots}
 use Rattle.slot_board.proofs.Occurs.{is, is-same, is-other, occurs-set}
 use Rattle.slot_board.proofs.LowestSlot.{first-is-lowest, holds-occurs, lowest-inside, lowest-holds}
-use Rattle.slot_board.proofs.Filled.{length-filled, filled-small, occurs-filled-empty, occurs-filled-held, occurs-filled-other}
+use Rattle.slot_board.proofs.Filled.{highest-filled, length-filled, filled-small, occurs-filled-empty, occurs-filled-held, occurs-filled-other}
 
 emptied-occurs : (place held : ℕ) (slots : List ℕ) → 0 < counts-of slots place → occurs held (set slots (lowest-with (place + 1) slots) 0) + is (place + 1) held ≡ occurs held slots + is 0 held
 emptied-occurs place held slots some =
@@ -39,9 +39,11 @@ emptied-meaning place slots low some =
 pub taken-slot : (place i : ℕ) (slots : List ℕ) → place ≤ 63 → FirstAt (place + 1) slots i → TakenSlot place slots (set slots i 0)
 taken-slot place i slots low first =
     let some = holds-occurs (place + 1) slots i (first .inside) (first .holds) in
-    let same : set slots i 0 ≡ set slots (lowest-with (place + 1) slots) 0 = ap (λ j. set slots j 0) (first-is-lowest (place + 1) slots i first) in
+    let at-lowest = first-is-lowest (place + 1) slots i first in
+    let same : set slots i 0 ≡ set slots (lowest-with (place + 1) slots) 0 = ap (λ j. set slots j 0) at-lowest in
     record {
       emptied = same;
+      lowest = subst (FirstAt (place + 1) slots) at-lowest first;
       meaning = subst (λ s. Taken place (counts-of slots) (occurs 0 slots) (counts-of s) (occurs 0 s)) (sym same) (emptied-meaning place slots low some);
     }
 
@@ -76,6 +78,7 @@ pub put-slots : (place n : ℕ) (slots slots′ : List ℕ) → place ≤ 63 →
 put-slots place n slots slots′ low enough same =
     record {
       filled-down = same;
+      highest = subst (HighestFilled (place + 1) slots) (sym same) (highest-filled (place + 1) n slots (λ z. omega arith));
       meaning = subst (λ s. Put place n (counts-of slots) (occurs 0 slots) (counts-of s) (occurs 0 s)) (sym same) (filled-meaning place n slots low enough);
     }
 

@@ -1,12 +1,13 @@
 //! The slot board: 4,096 slots, each empty or with one block of a place.
 ghost use mathlib.Core.Path.{_≡_};
-ghost use Prim.Native.Nat.{ℕ, _≤_, _<_};
+ghost use Prim.Native.Nat.{ℕ, _+_, _≤_};
 ghost use lib.ListN.{length, getD, replicate};
 ghost use Rattle.std.specs.Options.{Cases as BySome};
 ghost use Rattle.std.specs.Orderings.{When};
+ghost use Rattle.std.specs.Vec.{made};
 ghost use Rattle.boards.specs.Boards.{TakeSays, PutSays};
-ghost use Rattle.slot_board.specs.Slots.{occurs, counts-of, slots-after-take, slots-after-put};
-ghost use Rattle.slot_board.specs.Passes.{Absent, FirstAt, TakenSlot, PutSlots};
+ghost use Rattle.slot_board.specs.Slots.{occurs, counts-of, lowest-with, slots-after-take, slots-after-put};
+ghost use Rattle.slot_board.specs.Passes.{Absent, FirstAt, HighestFilled, TakenSlot, PutSlots};
 ghost use Rattle.slot_board.specs.Loads.{SlotsFit, LoadSays};
 use boards::board::Board;
 use boards::board::LAST_PLACE;
@@ -159,6 +160,7 @@ pub impl Board for SlotBoard as SlotBoardBoard {
     fn take(&mut self, place: u8) -> Result<(), Refusal>
         ensures answer { λ r. ⌜ TakeSays place (counts-of (now (self .entry) .slots)) (occurs 0 (now (self .entry) .slots)) r (counts-of (now (self .exit) .slots)) (occurs 0 (now (self .exit) .slots)) ⌝ }
         ensures slots { λ r. ⌜ now (self .exit) .slots ≡ slots-after-take place r (now (self .entry) .slots) ⌝ }
+        ensures lowest { λ r. ⌜ made r (λ _. FirstAt (place + 1) (now (self .entry) .slots) (lowest-with (place + 1) (now (self .entry) .slots))) ⌝ }
     {
         if place > LAST_PLACE {
             return Err(Refusal::NoSuchPlace);
@@ -173,6 +175,7 @@ pub impl Board for SlotBoard as SlotBoardBoard {
     fn put(&mut self, place: u8, n: u32) -> Result<(), Refusal>
         ensures answer { λ r. ⌜ PutSays place n (counts-of (now (self .entry) .slots)) (occurs 0 (now (self .entry) .slots)) r (counts-of (now (self .exit) .slots)) (occurs 0 (now (self .exit) .slots)) ⌝ }
         ensures slots { λ r. ⌜ now (self .exit) .slots ≡ slots-after-put place n r (now (self .entry) .slots) ⌝ }
+        ensures highest { λ r. ⌜ made r (λ _. HighestFilled (place + 1) (now (self .entry) .slots) (now (self .exit) .slots)) ⌝ }
     {
         if place > LAST_PLACE {
             return Err(Refusal::NoSuchPlace);
