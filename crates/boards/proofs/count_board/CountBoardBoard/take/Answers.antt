@@ -1,0 +1,10 @@
+use mathlib.Core.Path.{_∙_}
+use native.Mathlib.Omega.{arith}
+use lib.ListN.{length-set}
+use Rattle.boards.proofs.RowSums.{law-after}
+use Rattle.boards.proofs.count_board.CountBoardBoard.take.Needs as need
+
+pub ghost-self : need.ghost-self
+ghost-self c =
+    let b = c .args .self .now in
+    (length-set (b .counts) _ _ ∙ b .long, (law-after (b .counts) _ _ (b .spare) _ (b .long) (omega arith) (omega arith) (b .lawful), tt))

@@ -1,0 +1,3 @@
+mod Permuted
+mod Seen
+mod Names

@@ -1,0 +1,5 @@
+mod Occurs
+mod LowestSlot
+mod Filled
+mod FillTurns
+mod Moves
