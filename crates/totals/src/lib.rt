@@ -3,3 +3,5 @@ pub mod asked;
 pub mod finals;
 mod rows;
 pub mod sums;
+#[cfg(test)]
+mod tests;

@@ -1,0 +1,3 @@
+mod Conditions
+pub mod TableLaw
+pub mod ReadTables
