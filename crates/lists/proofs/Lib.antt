@@ -1,1 +1,1 @@
-mod Rows
+pub mod Written

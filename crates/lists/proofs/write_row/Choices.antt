@@ -1,11 +1,11 @@
 use mathlib.Core.Path.{_≡_}
 use denote.Ref.{name}
-use Rattle.std.specs.shelf.Lists.{paste}
+use lib.ListN.{take}
+use Rattle.lists.proofs.Written.{Written}
 use Rattle.lists.proofs.write_row.Given as given
 
--- so much of the row stands at the front, and behind it what was there
+-- so much of the row is written
 abbrev pub Inv-loop-x : given.InvT-loop-x
 Inv-loop-x g l =
     (name (l .list .memory) ≡ name (l .entry .list .memory))
-    × (l .list .len ≡ l .x-index)
-    × (l .list .memory .now ≡ paste (l .entry .list .memory .now) 0 (l .row) (l .x-index))
+    × Written (l .entry .list .memory .now) (take (l .x-index) (l .row)) (l .list .memory .now) (l .list .len)
