@@ -1,6 +1,7 @@
 //! The bounded list: elements of any kind, one behind the other, at the front of lent memory.
-ghost use Prim.Native.Nat.{_≤_};
-ghost use Rattle.lists.specs.Lists.{Adds, Finds, Writes};
+ghost use Prim.Native.Nat.{ℕ, _+_, _≤_};
+ghost use Rattle.lists.specs.Lists.{Adds, AddsFound, Gets, Writes};
+ghost use Rattle.std.specs.declared.option.Option.{Option};
 ghost use denote.Ref.{name};
 ghost use lib.ListN.{length};
 ghost use mathlib.Core.Path.{_≡_};
@@ -31,9 +32,17 @@ impl<'a, T: Drop> BoundedList<'a, T> {
         self.len
     }
 
+    /// How many more elements fit.
+    pub fn room(&self) -> usize
+        ensures { λ r. ⌜ r + now (self .entry) .len ≡ length (now (now (self .entry) .memory)) ⌝ }
+    {
+        let memory = &*self.memory;
+        memory.len() - self.len
+    }
+
     /// The element at a position, absent from the length on.
     pub fn get(&self, i: usize) -> Option<&T>
-        ensures { λ r. ⌜ Finds (now (now (self .entry) .memory)) (now (self .entry) .len) i r ⌝ }
+        ensures { λ r. ⌜ Gets (now (now (self .entry) .memory)) (now (self .entry) .len) i r ⌝ }
     {
         let memory = &*self.memory;
         if i < self.len { Some(&memory[i]) } else { None }
@@ -53,6 +62,36 @@ impl<'a, T: Drop> BoundedList<'a, T> {
     }
 }
 
+/// A search for items, one number at a time.
+pub trait Finds<T> {
+    ghost at: { Self → ℕ → Option T };
+
+    /// What is found at this number, if anything.
+    fn find(&self, number: u16) -> Option<T>
+        ensures { λ r. ⌜ r ≡ at (now (self .entry)) number ⌝ };
+}
+
+/// Adds all that is found at the numbers below `end`, by rising number; refused, before anything is
+/// added, where there is no room for one item of each number.
+pub fn add_found<T: Drop, F: Finds<T>>(
+    list: &mut BoundedList<T>,
+    finds: &F,
+    end: u16,
+) -> Result<(), Refusal>
+    ensures lender { λ _. ⌜ name (now (list .exit) .memory) ≡ name (now (list .entry) .memory) ⌝ }
+    ensures adds { λ r. ⌜ AddsFound (at (now (finds .entry))) end (now (now (list .entry) .memory)) (now (list .entry) .len) r (now (now (list .exit) .memory)) (now (list .exit) .len) ⌝ }
+{
+    if list.room() < end as usize {
+        return Err(Refusal::ListFull);
+    }
+    for number in 0..end {
+        if let Some(item) = finds.find(number) {
+            let _ = list.add(item);
+        }
+    }
+    Ok(())
+}
+
 /// Writes a whole row at the front of the memory through a list, and answers its length; refused,
 /// before anything is written, when the memory is shorter than the row.
 pub fn write_row<T: Copy>(memory: &mut [T], row: &[T]) -> Result<usize, Refusal>
@@ -69,40 +108,4 @@ pub fn write_row<T: Copy>(memory: &mut [T], row: &[T]) -> Result<usize, Refusal>
 }
 
 #[cfg(test)]
-mod tests {
-    use super::*;
-    use refusals::RefusalDebug;
-    use refusals::RefusalPartialEq;
-    use std::test::*;
-
-    #[test]
-    fn keeps_steps_in_their_order_and_leaves_the_rest() -> Result<(), Fail> {
-        let mut memory = [9u16; 4];
-        let mut list = BoundedList::new(&mut memory);
-        list.add(5)?;
-        list.add(7)?;
-        check_eq(list.len(), 2)?;
-        check_eq(list.get(1).copied(), Some(7))?;
-        check_eq(list.get(2).copied(), None)?;
-        check_eq(memory, [5, 7, 9, 9])
-    }
-
-    #[test]
-    fn holds_records_until_the_memory_is_full() -> Result<(), Fail> {
-        let mut memory = [(0u8, 0i64); 2];
-        let mut list = BoundedList::new(&mut memory);
-        list.add((1, -1))?;
-        list.add((2, 3))?;
-        check_eq(list.add((3, 0)), Err(Refusal::ListFull))?;
-        check_eq(memory, [(1, -1), (2, 3)])
-    }
-
-    #[test]
-    fn a_row_that_does_not_fit_writes_nothing() -> Result<(), Fail> {
-        let mut memory = [9u16; 2];
-        check_eq(write_row(&mut memory, &[1, 2, 3]), Err(Refusal::ListFull))?;
-        check_eq(memory, [9, 9])?;
-        check_eq(write_row(&mut memory, &[1]), Ok(1))?;
-        check_eq(memory, [1, 9])
-    }
-}
+mod tests;
