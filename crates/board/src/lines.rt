@@ -5,6 +5,7 @@ use calls::Call;
 use slot_board::SLOTS;
 use std::alloc::AllocError;
 use std::alloc::Global;
+use std::str::FromStr;
 
 #[derive(Drop)]
 pub(crate) enum Line {
@@ -50,7 +51,7 @@ fn load(heap: Global, words: &[&str]) -> Result<Line, AllocError> {
 
 // the lines of one word and at most two numbers
 fn short_line(words: &[&str]) -> Line {
-    let line = match words {
+    match words {
         ["allow", left] => match left.parse::<u32>() {
             Ok(left) => Line::Allow(left),
             Err(_) => Line::Unknown,
@@ -69,8 +70,7 @@ fn short_line(words: &[&str]) -> Line {
             _ => Line::Unknown,
         },
         _ => Line::Unknown,
-    };
-    line
+    }
 }
 
 // counts for the first places, then the word spare and a number; the other places are empty
@@ -84,33 +84,25 @@ fn counts(heap: Global, words: &[&str]) -> Result<Line, AllocError> {
     if *word != "spare" {
         return Ok(Line::Unknown);
     }
-    let mut row = Vec::new(heap);
-    for word in words {
-        match word.parse::<u32>() {
-            Ok(count) => row.push(count)?,
-            Err(_) => return Ok(Line::Unknown),
-        }
-    }
-    for _ in row.len()..PLACES {
-        row.push(0)?;
-    }
+    let Some(mut row) = numbers::<u32>(heap, words)? else {
+        return Ok(Line::Unknown);
+    };
+    row.resize(row.len().max(PLACES), 0)?;
     Ok(Line::LoadCounts(row, spare))
 }
 
 // what the first slots hold; the others are empty
 fn slots(heap: Global, words: &[&str]) -> Result<Line, AllocError> {
-    let Some(mut row) = bytes(heap, words)? else {
+    let Some(mut row) = numbers::<u8>(heap, words)? else {
         return Ok(Line::Unknown);
     };
-    for _ in row.len()..SLOTS {
-        row.push(0)?;
-    }
+    row.resize(row.len().max(SLOTS), 0)?;
     Ok(Line::LoadSlots(row))
 }
 
 // what the first places stand for; the others stand for themselves
 fn renaming(heap: Global, words: &[&str]) -> Result<Line, AllocError> {
-    let Some(mut row) = bytes(heap, words)? else {
+    let Some(mut row) = numbers::<u8>(heap, words)? else {
         return Ok(Line::Unknown);
     };
     for place in 0..=LAST_PLACE {
@@ -121,11 +113,15 @@ fn renaming(heap: Global, words: &[&str]) -> Result<Line, AllocError> {
     Ok(Line::Rename(row))
 }
 
-fn bytes(heap: Global, words: &[&str]) -> Result<Option<Vec<u8>>, AllocError> {
+// the words as numbers, if they all are
+fn numbers<T: FromStr + Drop>(heap: Global, words: &[&str]) -> Result<Option<Vec<T>>, AllocError>
+where
+    T::Err: Drop,
+{
     let mut all = Vec::new(heap);
     for word in words {
-        match word.parse::<u8>() {
-            Ok(byte) => all.push(byte)?,
+        match word.parse::<T>() {
+            Ok(number) => all.push(number)?,
             Err(_) => return Ok(None),
         }
     }

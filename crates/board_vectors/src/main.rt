@@ -20,6 +20,7 @@ use std::error::AnyError;
 use std::io;
 use table::Table;
 use table::digest;
+use table::digest_bytes;
 
 fn main(rt: LibcRuntime) -> Result<(), AnyError> {
     let text = io::read_to_string(rt.alloc(), rt.stdin())?;
@@ -63,11 +64,7 @@ fn slot_pile(table: &mut Table<'_>) -> Result<(), AnyError> {
         table.compare(&board, answer_of(done))?;
     }
     let board = on_board(table, board)?;
-    let mut kept = Vec::new(table.heap());
-    for slot in board.slots() {
-        kept.push(u32::from(*slot))?;
-    }
-    let kept = digest(kept.as_slice());
+    let kept = digest_bytes(board.slots());
     table.compare(&board, Answer::Number(kept))
 }
 

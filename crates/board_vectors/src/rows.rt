@@ -59,9 +59,8 @@ fn slots_of(heap: Global, runs: &[u32]) -> Result<Vec<u8>, AllocError> {
     let mut slots = Vec::new(heap);
     for run in runs.chunks_exact(2) {
         if let [length, held] = run {
-            for _ in 0..*length {
-                slots.push(byte(*held))?;
-            }
+            let long = slots.len().saturating_add(*length as usize);
+            slots.resize(long, byte(*held))?;
         }
     }
     Ok(slots)

@@ -28,7 +28,7 @@ impl<'a> Table<'a> {
         }
     }
 
-    pub(crate) fn heap(&self) -> Global {
+    fn heap(&self) -> Global {
         self.rt.alloc()
     }
 
@@ -90,11 +90,23 @@ fn asked(line: &str) -> &str {
     }
 }
 
+// where the digest starts
+const START: u32 = 2_166_136_261;
+
 // one number for a list of numbers: FNV-1a of 32 bits over their four bytes, low byte first
 pub(crate) fn digest(numbers: &[u32]) -> u32 {
-    let mut value = 2_166_136_261;
+    let mut value = START;
     for number in numbers {
         value = digest_with(value, *number);
+    }
+    value
+}
+
+// the same for bytes, each as a number
+pub(crate) fn digest_bytes(bytes: &[u8]) -> u32 {
+    let mut value = START;
+    for byte in bytes {
+        value = digest_with(value, u32::from(*byte));
     }
     value
 }
