@@ -13,8 +13,7 @@ use Rattle.std.proofs.shelf.Ways.{tells}
 use Rattle.theory.specs.Nets.{NetLaw}
 use Rattle.formats.specs.Chained.{chained-places, chained-steps, chained-arcs, chained-input, first-arc, arc-place, arc-weight, arc-next, chained-step-unfit, next-fits, arc-unfit, chain-empty, chain-yield, chained-head-refusal, chained-rows-refusal, chained-refusal, chained-net}
 use Rattle.formats.proofs.Chains.{chain-end, chain-here, chain-next}
-use Rattle.searches.proofs.Least.{none-of-two, none-of-test}
-use Rattle.formats.proofs.Refused.{least-fault-none, places-in-range, at-most, below, not-zero, not-false, neither, of-step, of-no-step}
+use Rattle.formats.proofs.Refused.{none-of-two, none-of-test, least-fault-none, places-in-range, at-most, below, not-zero, not-false, neither, of-step, of-no-step}
 
 -- each arc is fit
 Arcs-fit : List ℕ → Type 0

@@ -10,8 +10,8 @@ use Rattle.std.specs.Options.{isSome}
 use Rattle.std.proofs.shelf.Ways.{tells}
 use Rattle.theory.specs.Nets.{NetLaw}
 use Rattle.formats.specs.Grid.{grid-places, grid-steps, grid-input, grid-yield, grid-input-outside, grid-yields-nothing, grid-head-refusal, grid-rows-refusal, grid-refusal, grid-net}
-use Rattle.searches.proofs.Least.{none-of-two, none-of-test, any-below-some}
-use Rattle.formats.proofs.Refused.{least-fault-none, places-in-range, at-most, below, positive, not-false, of-step, of-no-step}
+use Rattle.theory.proofs.ReachRounds.{any-find}
+use Rattle.formats.proofs.Refused.{none-of-two, none-of-test, least-fault-none, places-in-range, at-most, below, positive, not-false, of-step, of-no-step}
 
 inside-yield : (t p T P y : ℕ) → t < T → p < P → cond (ltb t T && ltb p P) y 0 ≡ y
 inside-yield t p T P y h k = grind (arith, tells)
@@ -45,6 +45,6 @@ grid-lawful file bytes sound =
       no-yield-outside-steps = λ t p h. outside-steps t p T P (grid-yield file t p) h;
       no-yield-outside-places = λ t p h. outside-places t p T P (grid-yield file t p) h;
       yields-something = λ t h.
-          let some = any-below-some (λ p. ltb 0 (grid-yield file t p)) P (not-false _ (least-fault-none (grid-yields-nothing file) T _ (yields .0) t h)) in
+          let some = any-find (λ p. ltb 0 (grid-yield file t p)) P (not-false _ (least-fault-none (grid-yields-nothing file) T _ (yields .0) t h)) in
           (some .0, omega (arith, positive (grid-yield file t (some .0)) (some .2), inside-yield t (some .0) T P (grid-yield file t (some .0)) h (some .1)));
     }

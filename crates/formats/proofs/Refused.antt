@@ -11,15 +11,26 @@ use Rattle.std.proofs.shelf.Ways.{tells}
 use Rattle.refusals.specs.declared.Refusal.{Refusal}
 use Rattle.theory.specs.Tests.{least}
 use Rattle.formats.specs.Checks.{least-fault}
-use Rattle.searches.proofs.Least.{least-none-all}
+use Rattle.std.specs.Options.{orOther}
+use Rattle.theory.proofs.Decided.{none-found}
 
-none-mapped : (e : ℕ → Refusal) (o : Option ℕ) → isSome (mapped e o) ≡ false → isSome o ≡ false
+-- where neither of two is there, neither is the first
+pub none-of-two : {A : Type 0} (a b : Option A) → isSome (orOther a b) ≡ false → (isSome a ≡ false) × (isSome b ≡ false)
+none-of-two None b e = (refl, e)
+none-of-two (Some x) b e = (e, absurd (true≢false e))
+
+-- where a test gives nothing, it fails
+pub none-of-test : {A : Type 0} (v : Bool) (x : A) → isSome (cond v (Some x) None) ≡ false → v ≡ false
+none-of-test true x e = absurd (true≢false e)
+none-of-test false x e = refl
+
+none-mapped : (e : ℕ → Refusal) (o : Option ℕ) → isSome (mapped e o) ≡ false → o ≡ None
 none-mapped e None h = refl
-none-mapped e (Some x) h = h
+none-mapped e (Some x) h = absurd (true≢false h)
 
 -- where no fault is named, none of the numbers has it
 pub least-fault-none : (b : ℕ → Bool) (n : ℕ) (e : ℕ → Refusal) → isSome (least-fault b n e) ≡ false → (k : ℕ) → k < n → b k ≡ false
-least-fault-none b n e h = least-none-all b n (none-mapped e (least b n) h)
+least-fault-none b n e h = none-found b n .0 (none-mapped e (least b n) h)
 
 pub places-in-range : (P : ℕ) → (eqb P 0 || ltb 64 P) ≡ false → (1 ≤ P) × (P ≤ 64)
 places-in-range P e = (grind (arith, tells), grind (arith, tells))

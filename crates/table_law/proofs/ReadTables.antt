@@ -9,7 +9,7 @@ use lib.Dec.{ltb}
 use Rattle.std.proofs.shelf.Tests.{cases-lt, lt-ltb}
 use Rattle.theory.specs.Nets.{NetMeaning, NetLaw}
 use Rattle.theory.specs.Rows.{at}
-use Rattle.searches.proofs.Least.{any-below-at}
+use Rattle.theory.proofs.ReachRounds.{any-from}
 use Rattle.table_law.specs.Tables.{cell, yields-somewhere, table-net}
 use Rattle.table_law.proofs.Conditions.{of-step, of-no-step, inside, outside-steps, outside-places}
 
@@ -66,5 +66,5 @@ module _ (N : NetMeaning) (law : NetLaw N) (P T : ℕ) (inputs yields : List ℕ
         | inl k ↦ k
         | inr k ↦ absurd (omega (arith, found .1, law .no-yield-outside-places t p k))
       ] in
-      any-below-at (λ q. ltb 0 (at yields (cell t q))) P p (omega (arith, holds .places, holds .steps))
+      any-from (λ q. ltb 0 (at yields (cell t q))) p P (omega (arith, holds .places, holds .steps))
       (lt-ltb 0 (at yields (cell t p)) (omega (arith, found .1, holds .yields t p step place)))

@@ -7,7 +7,7 @@ use native.Mathlib.Omega.{arith}
 use lib.Dec.{ltb}
 use Rattle.theory.specs.Nets.{NetLaw}
 use Rattle.theory.specs.Rows.{at}
-use Rattle.searches.proofs.Least.{any-below-some}
+use Rattle.theory.proofs.ReachRounds.{any-find}
 use Rattle.table_law.specs.Tables.{cell, yields-somewhere, table-net}
 use Rattle.table_law.proofs.Conditions.{of-step, of-no-step, inside, outside-steps, outside-places, small, positive}
 
@@ -27,7 +27,7 @@ table-lawful P T inputs yields some few-places few-steps inputs-inside yields-sm
       no-yield-outside-steps = λ t p h. outside-steps t p T P (at yields (cell t p)) h;
       no-yield-outside-places = λ t p h. outside-places t p T P (at yields (cell t p)) h;
       yields-something = λ t h.
-          let found = any-below-some (λ p. ltb 0 (at yields (cell t p))) P (somewhere t h) in (
+          let found = any-find (λ p. ltb 0 (at yields (cell t p))) P (somewhere t h) in (
             found .0,
             omega (
               arith,

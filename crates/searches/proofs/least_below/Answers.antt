@@ -1,13 +1,13 @@
 use borrow.Author.Count.{below-more}
 use mathlib.Core.Path.{sym}
 use native.Mathlib.Omega.{arith}
-use Rattle.searches.proofs.Least.{least-none, least-some}
+use Rattle.theory.proofs.Decided.{least-found, none-found}
 use Rattle.searches.proofs.least_below.Needs as need
 
 pub returns-then-test : need.returns-then-test
 returns-then-test g c =
     record {
-      answer = sym (least-some (g .T·Test .passes (c .args .test .now)) (c .args .end) (c .loop-number .number) (c .loop-number-test .taken) (sym (c .if-test .ensures tt)) (c .loop-number .inv));
+      answer = sym (least-found (g .T·Test .passes (c .args .test .now)) (c .args .end) (c .loop-number .number) .1 (c .loop-number-test .taken, sym (c .if-test .ensures tt), c .loop-number .inv));
       below = c .loop-number-test .taken;
     }
 
@@ -17,6 +17,6 @@ loop-number-again g c = below-more _ _ (c .loop-number .inv) (sym (c .if-test .e
 pub returns : need.returns
 returns g c =
     record {
-      answer = sym (least-none (g .T·Test .passes (c .args .test .now)) (c .args .end) (λ k h. c .loop-number .inv k (omega arith)));
+      answer = sym (none-found (g .T·Test .passes (c .args .test .now)) (c .args .end) .1 (λ k h. c .loop-number .inv k (omega arith)));
       below = tt;
     }
