@@ -20,7 +20,8 @@ use Rattle.theory.proofs.Realized.{leaves, length-is}
 use Rattle.theory.proofs.Decided.{some-none}
 use Rattle.theory.proofs.Exchanging.{agreeing-exchanged}
 use Rattle.answers.specs.States.{State, New, Target, exact, done-total, done-limit, yields-of, yields-asked}
-use Rattle.answers.specs.Answers.{answered, unless, written, fire-refusal, resume-refusal, the-order, after-resume}
+use Rattle.refusals.specs.Answered.{answered}
+use Rattle.answers.specs.Answers.{unless, written, fire-refusal, resume-refusal, the-order, after-resume}
 use Rattle.answers.specs.Findings.{survey-refusal, findings}
 use Rattle.answers.specs.Calls.{Call, refusal-of, order-of, fired-by, after-call, accepted-answer, said, answer-to, after-calls, history, yields-in}
 use Rattle.answers.specs.Calls.Call.{fire, resume, survey}

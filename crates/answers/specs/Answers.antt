@@ -9,6 +9,7 @@ use Rattle.std.specs.declared.option.Option.the-variants.{Some, None}
 use Rattle.std.specs.declared.result.Result.{Result}
 use Rattle.std.specs.declared.result.Result.the-variants.{Ok, Err}
 use Rattle.std.specs.Options.{orOther, mapped}
+use Rattle.refusals.specs.Answered.{answered}
 use Rattle.refusals.specs.declared.Refusal.{Refusal}
 use Rattle.refusals.specs.declared.Refusal.the-variants.{RowsUnfit, DoneLimit, OrderMemoryShort, SpareShort, Short, CutOff, Missed, NoSuchStep, InputEmpty}
 use Rattle.theory.specs.Nets.{NetMeaning}
@@ -22,11 +23,6 @@ use Rattle.answers.specs.States.{State, Target, done-total, done-limit, yields
 abbrev pub first-wrong : List (Bool × Refusal) → Option Refusal
 first-wrong [] = None
 first-wrong (check ∷ checks) = cond (check .0) (Some (check .1)) (first-wrong checks)
-
--- what a call answers: the refusal if there is one, else the answer
-abbrev pub answered : {A : Type 0} → Option Refusal → A → Result A Refusal
-answered None a = Ok a
-answered (Some e) a = Err e
 
 -- what is there after a call: what was there if it is refused
 abbrev pub unless : {A : Type 0} → Option Refusal → A → A → A

@@ -18,7 +18,8 @@ use Rattle.answers.specs.declared.Cause.{Cause}
 use Rattle.answers.specs.declared.Cause.the-variants as cause
 use Rattle.answers.specs.declared.Finding.{Finding}
 use Rattle.answers.specs.States.{State, Target, done-total, done-limit, findings-needed}
-use Rattle.answers.specs.Answers.{first-wrong, answered, unless, written, rows-fit, is-missed}
+use Rattle.refusals.specs.Answered.{answered}
+use Rattle.answers.specs.Answers.{first-wrong, unless, written, rows-fit, is-missed}
 
 -- the signed number of a cause, 0 where it has none
 abbrev pub numberOf : Cause → ℤ

@@ -6,8 +6,6 @@ use lib.ListN.{getD}
 use Rattle.std.specs.Options.{mapped, orOther}
 use Rattle.std.specs.declared.option.Option.{Option}
 use Rattle.std.specs.declared.option.Option.the-variants.{Some, None}
-use Rattle.std.specs.declared.result.Result.{Result}
-use Rattle.std.specs.declared.result.Result.the-variants.{Ok, Err}
 use Rattle.refusals.specs.declared.Refusal.{Refusal}
 use Rattle.theory.specs.Tests.{least}
 
@@ -31,8 +29,3 @@ least-fault b n e = mapped e (least b n)
 abbrev pub first-of : List (Option Refusal) → Option Refusal
 first-of [] = None
 first-of (check ∷ checks) = orOther check (first-of checks)
-
--- what a call answers that makes these checks: that it was accepted, or the refusal
-abbrev pub answer : Option Refusal → Result (Unit {0}) Refusal
-answer None = Ok tt
-answer (Some e) = Err e

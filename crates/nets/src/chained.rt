@@ -2,7 +2,7 @@
 ghost use Prim.Native.Nat.{ℕ, _+_, _≤_, _<_, _^_};
 ghost use Rattle.formats.proofs.ChainedLaw.{chained-lawful};
 ghost use Rattle.formats.specs.Chained.{chained-steps, chained-arcs, first-arc, arc-begin, arc-place, arc-weight, arc-next, next-fits, chained-step-unfit, arc-unfit, chain-empty, chain-yield, chained-head-refusal, chained-rows-refusal, chained-refusal, chained-net};
-ghost use Rattle.formats.specs.Checks.{answer};
+ghost use Rattle.refusals.specs.Answered.{answered};
 ghost use Rattle.std.specs.Options.{isSome};
 ghost use Rattle.std.specs.Results.{isOk};
 ghost use denote.Ref.{now};
@@ -128,7 +128,7 @@ impl Test for ChainEmpty<'_> as ChainEmptyTest {
 
 /// The checks of the head and the length.
 fn check_head(file: &[u8]) -> Result<(), Refusal>
-    ensures { λ r. ⌜ r ≡ answer (chained-head-refusal (now (file .entry))) ⌝ }
+    ensures { λ r. ⌜ r ≡ answered (chained-head-refusal (now (file .entry))) tt ⌝ }
 {
     if file.len() < HEAD {
         return Err(Refusal::WrongLength);
@@ -149,7 +149,7 @@ fn check_head(file: &[u8]) -> Result<(), Refusal>
 
 /// The checks of the steps and arcs; the first that fails decides.
 fn check_rows(file: &[u8]) -> Result<(), Refusal>
-    ensures { λ r. ⌜ r ≡ answer (chained-rows-refusal (now (file .entry))) ⌝ }
+    ensures { λ r. ⌜ r ≡ answered (chained-rows-refusal (now (file .entry))) tt ⌝ }
 {
     let steps = byte_at(file, 1) as u16;
     if let Some(step) = least_below(&StepUnfit(file), steps) {
@@ -192,7 +192,7 @@ impl<'a> ChainedNet<'a> {
 
     /// Reads a whole file; a refused one leaves the net as it was.
     pub fn load(&mut self, file: &'a [u8]) -> Result<(), Refusal>
-        ensures answer { λ r. ⌜ r ≡ answer (chained-refusal (now (file .entry))) ⌝ }
+        ensures answer { λ r. ⌜ r ≡ answered (chained-refusal (now (file .entry))) tt ⌝ }
         ensures after { λ r. ⌜ now (now (self .exit) .file) ≡ cond (isOk r) (now (file .entry)) (now (now (self .entry) .file)) ⌝ }
     {
         check_head(file)?;

@@ -1,7 +1,7 @@
 //! The grid net: a table of yields, a row for each step.
 ghost use Prim.Native.Nat.{ℕ, _≤_};
 ghost use Rattle.formats.proofs.GridLaw.{grid-lawful};
-ghost use Rattle.formats.specs.Checks.{answer};
+ghost use Rattle.refusals.specs.Answered.{answered};
 ghost use Rattle.formats.specs.Grid.{grid-input-outside, grid-row, grid-yield, grid-yields-nothing, grid-head-refusal, grid-rows-refusal, grid-refusal, grid-net};
 ghost use Rattle.std.specs.Options.{isSome};
 ghost use Rattle.std.specs.Results.{isOk};
@@ -76,7 +76,7 @@ impl Test for YieldsNothing<'_> as YieldsNothingTest {
 
 /// The checks of the head and the length.
 fn check_head(file: &[u8]) -> Result<(), Refusal>
-    ensures { λ r. ⌜ r ≡ answer (grid-head-refusal (now (file .entry))) ⌝ }
+    ensures { λ r. ⌜ r ≡ answered (grid-head-refusal (now (file .entry))) tt ⌝ }
 {
     if file.len() < HEAD {
         return Err(Refusal::WrongLength);
@@ -97,7 +97,7 @@ fn check_head(file: &[u8]) -> Result<(), Refusal>
 
 /// The checks of the rows; the first that fails decides.
 fn check_rows(file: &[u8]) -> Result<(), Refusal>
-    ensures { λ r. ⌜ r ≡ answer (grid-rows-refusal (now (file .entry))) ⌝ }
+    ensures { λ r. ⌜ r ≡ answered (grid-rows-refusal (now (file .entry))) tt ⌝ }
 {
     let steps = byte_at(file, 1) as u16;
     if let Some(step) = least_below(&InputOutside(file), steps) {
@@ -120,7 +120,7 @@ impl<'a> GridNet<'a> {
 
     /// Reads a whole file; a refused one leaves the net as it was.
     pub fn load(&mut self, file: &'a [u8]) -> Result<(), Refusal>
-        ensures answer { λ r. ⌜ r ≡ answer (grid-refusal (now (file .entry))) ⌝ }
+        ensures answer { λ r. ⌜ r ≡ answered (grid-refusal (now (file .entry))) tt ⌝ }
         ensures after { λ r. ⌜ now (now (self .exit) .file) ≡ cond (isOk r) (now (file .entry)) (now (now (self .entry) .file)) ⌝ }
     {
         check_head(file)?;
