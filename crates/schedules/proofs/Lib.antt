@@ -1,0 +1,4 @@
+mod Searching
+mod Flagged
+mod Agreeing
+mod Shown

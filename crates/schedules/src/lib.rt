@@ -1,0 +1,5 @@
+//! Schedules: what a resume knows while it finds the first order.
+mod build;
+mod reach;
+mod rows;
+pub mod schedule;
