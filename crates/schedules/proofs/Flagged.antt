@@ -35,6 +35,10 @@ or-swap true false = refl
 or-swap false true = refl
 or-swap false false = refl
 
+pub or-regroup : (u v w : Bool) → ((u || v) || w) ≡ (u || (v || w))
+or-regroup true v w = refl
+or-regroup false v w = refl
+
 pub any-joined : (b : ℕ → Bool) (n : ℕ) (have more : Bool) → have ≡ any-below b n → more ≡ b n → (have || more) ≡ any-below b (n + 1)
 any-joined b n have more h e =
     ap (λ (v : Bool). v || more) h ∙ ap (λ (v : Bool). any-below b n || v) e ∙ or-swap (any-below b n) (b n) ∙ sym (any-more b n)

@@ -2,3 +2,5 @@ mod Searching
 mod Flagged
 mod Agreeing
 mod Shown
+mod Reaching
+mod SafeFirings

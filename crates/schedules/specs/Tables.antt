@@ -30,7 +30,8 @@ takers-in s p = sumTo (λ t. cond (takes-in s p t) 1 0) (s .steps)
 
 -- a step that is left takes or yields at p
 abbrev pub in-use : Schedule → ℕ → Bool
-in-use s p = any-below (λ t. ltb 0 (at (s .left) t) && (eqb (at (s .inputs) t) p || has-at (s .yields) t p)) (s .steps)
+in-use s p =
+    any-below (λ t. ltb 0 (at (s .left) t) && ((eqb p (at (s .inputs) t) && ltb (at (s .inputs) t) 64) || has-at (s .yields) t p)) (s .steps)
 
 -- the two differ at most in their leads and takers
 pub record Same-else (s s′ : Schedule) : Type 0 where

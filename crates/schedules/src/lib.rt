@@ -1,5 +1,6 @@
 //! Schedules: what a resume knows while it finds the first order.
 mod build;
+mod choose;
 mod reach;
 mod rows;
 pub mod schedule;

@@ -51,7 +51,7 @@ module _ (N : NetMeaning) (m : Marking) (x : Tally) where
       (N .input t) r t l h refl
 
   -- a step whose input is reached again after it
-  keeps-if-back : Inputs-reached N m x → (s : ℕ) → s < N .steps → 0 < x s → 0 < m (N .input s) →
+  pub keeps-if-back : Inputs-reached N m x → (s : ℕ) → s < N .steps → 0 < x s → 0 < m (N .input s) →
       Reached N (fired N m s) (less x s) (N .input s) → Keeps-reached N m x s
   keeps-if-back c s l h i back = (l, h, i, λ u k j. again (N .input u) (c u k (omega arith)))
     where
@@ -67,7 +67,7 @@ module _ (N : NetMeaning) (m : Marking) (x : Tally) where
           ])
 
   -- a step whose input no other step left takes from
-  keeps-if-last : Inputs-reached N m x → (s : ℕ) → s < N .steps → 0 < x s → 0 < m (N .input s) →
+  pub keeps-if-last : Inputs-reached N m x → (s : ℕ) → s < N .steps → 0 < x s → 0 < m (N .input s) →
       ((u : ℕ) → u < N .steps → 0 < less x s u → N .input s ≡ N .input u → ⊥) → Keeps-reached N m x s
   keeps-if-last c s l h i last = (l, h, i, λ u k j. again (N .input u) (c u k (omega arith)) (last u k j))
     where
