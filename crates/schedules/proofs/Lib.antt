@@ -4,3 +4,4 @@ mod Agreeing
 mod Shown
 mod Reaching
 mod SafeFirings
+mod Chosen
