@@ -108,15 +108,16 @@ module _ (N : NetMeaning) (law : NetLaw N) (m : Marking) (x : Tally) (s : Schedu
   pub safe-not-ready : ready-in s t ≡ false → safe N m x t ≡ false
   safe-not-ready e = not-ready N law m x t (sym ready-shown ∙ e)
 
-  module _ (ready : ready-in s t ≡ true) (none : No-place-cut-off N m x) where
-    is-left : 0 < x t
+  module _ (ready : ready-in s t ≡ true) where
+    pub is-left : 0 < x t
     is-left = ltb-true 0 (x t) (and-parts (ltb 0 (x t)) (ltb 0 (m p)) (sym ready-shown ∙ ready) .0)
 
-    holds : 0 < m p
+    pub holds : 0 < m p
     holds = ltb-true 0 (m p) (and-parts (ltb 0 (x t)) (ltb 0 (m p)) (sym ready-shown ∙ ready) .1)
 
+  module _ (ready : ready-in s t ≡ true) (none : No-place-cut-off N m x) where
     pub safe-keeps : keeps-in s t ≡ true → safe N m x t ≡ true
-    safe-keeps e = safe-if-marked N law m x t l is-left holds none
+    safe-keeps e = safe-if-marked N law m x t l (is-left ready) (holds ready) none
         (elim (or-cases (ltb 1 (m p)) (ltb 0 (N .yields t p)) (sym keeps-shown ∙ e)) [
           | inl a ↦ omega (arith, ltb-true 1 (m p) a, one-same p p refl)
           | inr a ↦ omega (arith, ltb-true 0 (N .yields t p) a)
@@ -125,12 +126,12 @@ module _ (N : NetMeaning) (law : NetLaw N) (m : Marking) (x : Tally) (s : Schedu
     pub safe-last : last-in s t ≡ true → safe N m x t ≡ true
     safe-last e =
         let a = and-parts (eqb (x t) 1) (eqb (takers-at N x p) 1) (sym last-shown ∙ e) in
-        safe-if-last N law m x t l is-left holds none (eqb-true (takers-at N x p) 1 (a .1)) (eqb-true (x t) 1 (a .0))
+        safe-if-last N law m x t l (is-left ready) (holds ready) none (eqb-true (takers-at N x p) 1 (a .1)) (eqb-true (x t) 1 (a .0))
 
     pub safe-back : keeps-in s t ≡ false → last-in s t ≡ false → (r : Bool) →
         Decides r (Led (has-at (s .leads)) (marked-after s t) (at (s .inputs) t)) → r ≡ safe N m x t
     safe-back lost more r d =
-        safe-if-back N law m x t l is-left holds none
+        safe-if-back N law m x t l (is-left ready) (holds ready) none
         (λ e. both-ways (last-in s t) more
         (last-shown ∙ and-from (eqb (x t) 1) (eqb (takers-at N x p) 1) (eq-eqb (x t) 1 (e .1)) (eq-eqb (takers-at N x p) 1 (e .0))))
         r

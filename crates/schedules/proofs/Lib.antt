@@ -5,3 +5,4 @@ mod Shown
 mod Reaching
 mod SafeFirings
 mod Chosen
+mod Firing
