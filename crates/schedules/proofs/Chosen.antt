@@ -17,7 +17,7 @@ use Rattle.place_sets.specs.Flags.{has}
 use Rattle.schedules.specs.declared.schedule.Schedule.{Schedule}
 use Rattle.schedules.specs.Led.{Led}
 use Rattle.schedules.specs.Led.Led.{from, on}
-use Rattle.schedules.specs.Tables.{has-at}
+use Rattle.schedules.specs.Tables.{has-at, ready-in, keeps-in, last-in, marked-after}
 use Rattle.schedules.specs.Shows.{Shows, takers-at}
 use Rattle.schedules.proofs.Searching.{led-fold}
 use Rattle.schedules.proofs.Reaching.{led-decides, yields-inside}
@@ -26,19 +26,6 @@ use Rattle.schedules.proofs.SafeFirings.{not-ready, safe-if-marked, safe-if-la
 -- the same places are led to from the same first places
 pub led-alike : (leads : ℕ → ℕ → Bool) (a b : ℕ → Bool) → ((p : ℕ) → a p ≡ b p) → (p : ℕ) → Led leads a p → Led leads b p
 led-alike leads a b e = led-fold leads a (Led leads b) (λ p h. from (sym (e p) ∙ h)) (λ q p r h. on q r h)
-
--- the checks, by the tables
-abbrev pub ready-in : Schedule → ℕ → Bool
-ready-in s t = ltb 0 (at (s .left) t) && has (s .marked .word) (at (s .inputs) t)
-
-abbrev pub keeps-in : Schedule → ℕ → Bool
-keeps-in s t = ltb 1 (at (s .held) (at (s .inputs) t)) || has-at (s .yields) t (at (s .inputs) t)
-
-abbrev pub last-in : Schedule → ℕ → Bool
-last-in s t = eqb (at (s .left) t) 1 && eqb (at (s .takers) (at (s .inputs) t)) 1
-
-abbrev pub marked-after : Schedule → ℕ → ℕ → Bool
-marked-after s t p = (has (s .marked .word) p && not (eqb p (at (s .inputs) t))) || has-at (s .yields) t p
 
 module _ (N : NetMeaning) (law : NetLaw N) (m : Marking) (x : Tally) (s : Schedule) (h : Shows N m x s) (t : ℕ) (l : t < N .steps) where
   abbrev p : ℕ

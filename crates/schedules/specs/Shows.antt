@@ -1,7 +1,7 @@
 -- What a schedule shows: a net, a marking and the tally that is left.
 use mathlib.Core.Path.{_≡_}
 use mathlib.Core.Bool.{Bool, cond, _&&_}
-use Prim.Native.Nat.{ℕ, _<_}
+use Prim.Native.Nat.{ℕ, _+_, _^_, _<_}
 use lib.Dec.{eqb, ltb}
 use Rattle.theory.specs.Sums.{sumTo}
 use Rattle.theory.specs.Nets.{NetMeaning}
@@ -36,3 +36,13 @@ pub record Shows (N : NetMeaning) (m : Marking) (x : Tally) (s : Schedule) : Typ
   pub marked : (p : ℕ) → has (s .marked .word) p ≡ (ltb p (N .places) && ltb 0 (m p))
   pub leads : (q p : ℕ) → q < N .places → has-at (s .leads) q p ≡ leads-to N x q p
   pub takers : (p : ℕ) → p < N .places → at (s .takers) p ≡ takers-at N x p
+
+-- t is a step of the net, is left in the tally, and finds a block
+pub record Ready (N : NetMeaning) (m : Marking) (x : Tally) (t : ℕ) : Type 0 where
+  pub a-step : t < N .steps
+  pub left : 0 < x t
+  pub holds : 0 < m (N .input t)
+
+-- the yields of t fit beside the blocks that are there
+abbrev pub Room : NetMeaning → Marking → ℕ → Type 0
+Room N m t = (p : ℕ) → p < N .places → m p + N .yields t p < 2 ^ 32

@@ -1,7 +1,7 @@
 -- What the tables of a schedule say by themselves.
 use mathlib.Core.Path.{_≡_}
 use mathlib.Core.List.{List}
-use mathlib.Core.Bool.{Bool, cond, _&&_, _||_}
+use mathlib.Core.Bool.{Bool, not, cond, _&&_, _||_}
 use Prim.Native.Nat.{ℕ, _<_, _≤_}
 use lib.Dec.{eqb, ltb}
 use lib.ListN.{getD}
@@ -32,6 +32,22 @@ takers-in s p = sumTo (λ t. cond (takes-in s p t) 1 0) (s .steps)
 abbrev pub in-use : Schedule → ℕ → Bool
 in-use s p =
     any-below (λ t. ltb 0 (at (s .left) t) && ((eqb p (at (s .inputs) t) && ltb (at (s .inputs) t) 64) || has-at (s .yields) t p)) (s .steps)
+
+-- the step t is left and finds a block
+abbrev pub ready-in : Schedule → ℕ → Bool
+ready-in s t = ltb 0 (at (s .left) t) && has (s .marked .word) (at (s .inputs) t)
+
+-- the input place of t holds a block after t: it has another, or t yields there
+abbrev pub keeps-in : Schedule → ℕ → Bool
+keeps-in s t = ltb 1 (at (s .held) (at (s .inputs) t)) || has-at (s .yields) t (at (s .inputs) t)
+
+-- no step that is left after t takes at its input place
+abbrev pub last-in : Schedule → ℕ → Bool
+last-in s t = eqb (at (s .left) t) 1 && eqb (at (s .takers) (at (s .inputs) t)) 1
+
+-- p holds a block after t took the last one at its input place
+abbrev pub marked-after : Schedule → ℕ → ℕ → Bool
+marked-after s t p = (has (s .marked .word) p && not (eqb p (at (s .inputs) t))) || has-at (s .yields) t p
 
 -- the two differ at most in their leads and takers
 pub record Same-else (s s′ : Schedule) : Type 0 where

@@ -1,17 +1,14 @@
 //! The next step of the first order: the least that is safe.
 ghost use Prim.Native.Nat.{ℕ, _<_};
-ghost use Rattle.place_sets.specs.Flags.{has};
 ghost use Rattle.schedules.specs.Led.{Led};
 ghost use Rattle.schedules.specs.Shows.{Shows};
-ghost use Rattle.schedules.specs.Tables.{has-at};
+ghost use Rattle.schedules.specs.Tables.{has-at, ready-in, keeps-in, last-in, marked-after};
 ghost use Rattle.std.specs.Orderings.{Decides};
 ghost use Rattle.theory.specs.Firing.{Marking};
 ghost use Rattle.theory.specs.Nets.{NetMeaning, NetLaw};
 ghost use Rattle.theory.specs.Rows.{at};
 ghost use Rattle.theory.specs.Tallies.{Tally, No-place-cut-off};
 ghost use Rattle.theory.specs.Tests.{least, safe};
-ghost use lib.Dec.{eqb, ltb};
-ghost use mathlib.Core.Bool.{not, _&&_, _||_};
 ghost use mathlib.Core.Path.{_≡_};
 use crate::rows::at_or;
 use crate::schedule::Schedule;
@@ -45,14 +42,14 @@ impl Schedule {
 
     /// Whether a step is left and finds a block.
     pub(crate) fn is_ready(&self, step: u16) -> bool
-        ensures { λ r. ⌜ r ≡ (ltb 0 (at (now (self .entry) .left) step) && has (now (self .entry) .marked .word) (at (now (self .entry) .inputs) step)) ⌝ }
+        ensures { λ r. ⌜ r ≡ ready-in (now (self .entry)) step ⌝ }
     {
         at_or(&self.left, step as usize, 0) > 0 && self.marked.has(self.input(step))
     }
 
     /// Whether the input place holds a block after the step.
     fn keeps_input(&self, step: u16) -> bool
-        ensures { λ r. ⌜ r ≡ (ltb 1 (at (now (self .entry) .held) (at (now (self .entry) .inputs) step)) || has-at (now (self .entry) .yields) step (at (now (self .entry) .inputs) step)) ⌝ }
+        ensures { λ r. ⌜ r ≡ keeps-in (now (self .entry)) step ⌝ }
     {
         let place = self.input(step);
         at_or(&self.held, place as usize, 0) > 1 || self.yields(step).has(place)
@@ -60,7 +57,7 @@ impl Schedule {
 
     /// Whether no step that is left after this one takes at its input place.
     fn takes_last(&self, step: u16) -> bool
-        ensures { λ r. ⌜ r ≡ (eqb (at (now (self .entry) .left) step) 1 && eqb (at (now (self .entry) .takers) (at (now (self .entry) .inputs) step)) 1) ⌝ }
+        ensures { λ r. ⌜ r ≡ last-in (now (self .entry)) step ⌝ }
     {
         at_or(&self.left, step as usize, 0) == 1
             && at_or(&self.takers, self.input(step) as usize, 0) == 1
@@ -68,7 +65,7 @@ impl Schedule {
 
     /// Whether the input place is reached from the other places that hold a block after the step.
     fn comes_back(&self, step: u16) -> bool
-        ensures { λ r. ⌜ Decides r (Led (has-at (now (self .entry) .leads)) (λ p. (has (now (self .entry) .marked .word) p && not (eqb p (at (now (self .entry) .inputs) step))) || has-at (now (self .entry) .yields) step p) (at (now (self .entry) .inputs) step)) ⌝ }
+        ensures { λ r. ⌜ Decides r (Led (has-at (now (self .entry) .leads)) (marked-after (now (self .entry)) step) (at (now (self .entry) .inputs) step)) ⌝ }
     {
         let place = self.input(step);
         let first = self.marked.without(place).union(self.yields(step));

@@ -1,7 +1,7 @@
 //! One step fired: blocks moved, and one less of the step left.
 ghost use Prim.Native.Nat.{ℕ, _+_, _-_, _<_, _^_, min};
 ghost use Rattle.place_sets.specs.Flags.{has};
-ghost use Rattle.schedules.specs.Shows.{Shows};
+ghost use Rattle.schedules.specs.Shows.{Shows, Ready, Room};
 ghost use Rattle.theory.specs.Firing.{Marking, fired};
 ghost use Rattle.theory.specs.Nets.{NetMeaning, NetLaw};
 ghost use Rattle.theory.specs.Orders.{less};
@@ -33,8 +33,8 @@ fn add_yields<N: Net>(held: &mut [u32], net: &N, step: u16, places: PlaceSet)
 impl Schedule {
     /// Fires a step that is left and finds a block; any other leaves the schedule as it is.
     pub fn fire<N: Net>(&mut self, net: &N, step: u16)
-        ensures fired { λ _. ⌜ ((m : Marking) (x : Tally) → Shows (meaning (now (net .entry)) .net) m x (now (self .entry)) → step < meaning (now (net .entry)) .net .steps → 0 < x step → 0 < m (meaning (now (net .entry)) .net .input step) → ((p : ℕ) → p < meaning (now (net .entry)) .net .places → m p + meaning (now (net .entry)) .net .yields step p < 2 ^ 32) → Shows (meaning (now (net .entry)) .net) (fired (meaning (now (net .entry)) .net) m step) (less x step) (now (self .exit))) ⌝ }
-        ensures same { λ _. ⌜ ((m : Marking) (x : Tally) → Shows (meaning (now (net .entry)) .net) m x (now (self .entry)) → ((step < meaning (now (net .entry)) .net .steps) × (0 < x step) × (0 < m (meaning (now (net .entry)) .net .input step)) → ⊥) → now (self .exit) ≡ now (self .entry)) ⌝ }
+        ensures fired { λ _. ⌜ ((m : Marking) (x : Tally) → Shows (meaning (now (net .entry)) .net) m x (now (self .entry)) → Ready (meaning (now (net .entry)) .net) m x step → Room (meaning (now (net .entry)) .net) m step → Shows (meaning (now (net .entry)) .net) (fired (meaning (now (net .entry)) .net) m step) (less x step) (now (self .exit))) ⌝ }
+        ensures same { λ _. ⌜ ((m : Marking) (x : Tally) → Shows (meaning (now (net .entry)) .net) m x (now (self .entry)) → (Ready (meaning (now (net .entry)) .net) m x step → ⊥) → now (self .exit) ≡ now (self .entry)) ⌝ }
     {
         if step < self.steps && self.is_ready(step) {
             self.count_down(step);
@@ -44,7 +44,7 @@ impl Schedule {
 
     /// Leaves one less of a step.
     fn count_down(&mut self, step: u16)
-        ensures { λ _. ⌜ ((N : NetMeaning) (m : Marking) (x : Tally) → NetLaw N → Shows N m x (now (self .entry)) → step < N .steps → 0 < x step → Shows N m (less x step) (now (self .exit))) ⌝ }
+        ensures { λ _. ⌜ ((N : NetMeaning) (m : Marking) (x : Tally) → NetLaw N → Shows N m x (now (self .entry)) → Ready N m x step → Shows N m (less x step) (now (self .exit))) ⌝ }
     {
         let place = self.input(step);
         let left = at_or(&self.left, step as usize, 0);
@@ -56,7 +56,7 @@ impl Schedule {
 
     /// Takes a block at the input place of a step and puts its yields down.
     fn move_blocks<N: Net>(&mut self, net: &N, step: u16)
-        ensures { λ _. ⌜ ((m : Marking) (x : Tally) → Shows (meaning (now (net .entry)) .net) m x (now (self .entry)) → step < meaning (now (net .entry)) .net .steps → 0 < m (meaning (now (net .entry)) .net .input step) → ((p : ℕ) → p < meaning (now (net .entry)) .net .places → m p + meaning (now (net .entry)) .net .yields step p < 2 ^ 32) → Shows (meaning (now (net .entry)) .net) (fired (meaning (now (net .entry)) .net) m step) x (now (self .exit))) ⌝ }
+        ensures { λ _. ⌜ ((m : Marking) (x : Tally) → Shows (meaning (now (net .entry)) .net) m x (now (self .entry)) → step < meaning (now (net .entry)) .net .steps → 0 < m (meaning (now (net .entry)) .net .input step) → Room (meaning (now (net .entry)) .net) m step → Shows (meaning (now (net .entry)) .net) (fired (meaning (now (net .entry)) .net) m step) x (now (self .exit))) ⌝ }
     {
         let place = self.input(step);
         let yields = self.yields(step);

@@ -6,8 +6,8 @@ use Rattle.theory.specs.Rows.{at}
 use Rattle.place_sets.specs.Flags.{has}
 use Rattle.schedules.specs.declared.schedule.Schedule.{Schedule}
 use Rattle.schedules.specs.Led.{Led}
-use Rattle.schedules.specs.Tables.{has-at}
-use Rattle.schedules.proofs.Chosen.{led-alike, marked-after}
+use Rattle.schedules.specs.Tables.{has-at, marked-after}
+use Rattle.schedules.proofs.Chosen.{led-alike}
 use Rattle.schedules.proofs.schedule.Schedule.comes_back.Needs as need
 
 pub returns : need.returns

@@ -14,9 +14,11 @@ use Rattle.schedules.proofs.Firing.{with-left, shows-more-left, shows-last-gon
 use Rattle.schedules.proofs.schedule.Schedule.count_down.Needs as need
 
 pub returns-then-place-lt-PLACES : need.returns-then-place-lt-PLACES
-returns-then-place-lt-PLACES c N m x law h l k =
+returns-then-place-lt-PLACES c N m x law h ready =
     let s : Schedule = c .args .self .now in
     let t : ℕ = c .args .step in
+    let l : t < N .steps = ready .a-step in
+    let k : 0 < x t = ready .left in
     let row : c .put-at .last .row ≡ set (s .left) t (at (s .left) t - 1) =
     c .put-at .ensures ∙ ap (set (s .left) t) (c .saturating-sub .ensures ∙ ap (λ (v : ℕ). v - 1) (c .at-or-left .ensures)) in
     shows-last-gone N law m x s h t l k (c .rebuild .last .self)
@@ -25,9 +27,11 @@ returns-then-place-lt-PLACES c N m x law h l k =
     (c .rebuild .ensures)))
 
 pub returns-else-left-eq1 : need.returns-else-left-eq1
-returns-else-left-eq1 c N m x law h l k =
+returns-else-left-eq1 c N m x law h ready =
     let s : Schedule = c .args .self .now in
     let t : ℕ = c .args .step in
+    let l : t < N .steps = ready .a-step in
+    let k : 0 < x t = ready .left in
     let row : c .put-at .last .row ≡ set (s .left) t (at (s .left) t - 1) =
     c .put-at .ensures ∙ ap (set (s .left) t) (c .saturating-sub .ensures ∙ ap (λ (v : ℕ). v - 1) (c .at-or-left .ensures)) in
     let two : 1 < x t =

@@ -1,6 +1,7 @@
 use mathlib.Core.Path.{_≡_, sym, _∙_}
 use mathlib.Core.Bool.{true, false}
-use Rattle.schedules.proofs.Chosen.{ready-in, keeps-in, last-in, safe-keeps, safe-last, safe-back}
+use Rattle.schedules.specs.Tables.{ready-in}
+use Rattle.schedules.proofs.Chosen.{safe-keeps, safe-last, safe-back}
 use Rattle.schedules.proofs.schedule.Schedule.is_safe.Needs as need
 use Rattle.schedules.proofs.schedule.Schedule.is_safe.Needs.{then-keeps-input·by·then-keeps-input, then-keeps-input·by·else-keeps-input·then-takes-last}
 
