@@ -1,29 +1,27 @@
 -- A schedule shows the tally with one step less, and the marking after a step, once its tables are changed.
 use mathlib.Core.Path.{_≡_, refl, sym, ap, subst, _∙_}
 use mathlib.Core.List.{List}
-use mathlib.Core.Bool.{Bool, true, false, not, cond, _&&_, _||_}
+use mathlib.Core.Bool.{Bool, false, not, cond, _&&_, _||_}
 use mathlib.Core.Logic.{_⊎_, inl, inr}
-use Prim.Native.Nat.{ℕ, _+_, _-_, _^_, _<_, _≤_, min}
+use Prim.Native.Nat.{ℕ, _+_, _-_, _^_, _<_, min}
 use native.Mathlib.Omega.{arith}
 use lib.Dec.{eqb, ltb}
 use lib.ListN.{length, set}
 use Rattle.std.proofs.shelf.Lists.{getD-set-same, getD-set-other, getD-past}
-use Rattle.std.proofs.shelf.Tests.{cases-eq, cases-lt, ltb-true, ltb-false, lt-ltb, le-ltb, eq-eqb, ne-eqb, cond-true, cond-false}
-use Rattle.theory.specs.Sums.{sumTo}
+use Rattle.std.proofs.shelf.Tests.{cases-eq, cases-lt, lt-ltb, le-ltb, ne-eqb, and-right, cond-true, cond-false}
 use Rattle.theory.specs.Nets.{NetMeaning, NetLaw}
 use Rattle.theory.specs.Rows.{at}
 use Rattle.theory.specs.Firing.{Marking, one-at, fired}
 use Rattle.theory.specs.Tallies.{Tally}
 use Rattle.theory.specs.Orders.{less}
-use Rattle.theory.specs.Tests.{any-below}
 use Rattle.theory.proofs.SumLaws.{sumTo-same}
 use Rattle.theory.proofs.TallySums.{one-same, one-other, one-tells}
 use Rattle.place_sets.specs.Flags.{has}
 use Rattle.schedules.specs.declared.schedule.Schedule.{Schedule}
-use Rattle.schedules.specs.Tables.{has-at, leads-in, takers-in, Same-else, Rebuilt}
+use Rattle.schedules.specs.Tables.{has-at, Same-else, Rebuilt}
 use Rattle.schedules.specs.Shows.{Shows, takes, leads-to, takers-at}
 use Rattle.schedules.proofs.Flagged.{any-alike}
-use Rattle.schedules.proofs.Shown.{Tabled, leads-shown, takers-shown}
+use Rattle.schedules.proofs.Shown.{Tabled, leads-shown, takers-shown, marked-fired}
 
 -- ROWS
 
@@ -71,17 +69,12 @@ module _ (N : NetMeaning) (law : NetLaw N) (m : Marking) (x : Tally) (s : Schedu
     | inl e ↦ elim why [
       | inl other ↦
           let z : eqb (N .input u) q ≡ false = ne-eqb (N .input u) q (λ f. other (ap (λ (v : ℕ). N .input v) (e .0) ∙ f)) in
-          ap (λ (v : Bool). ltb 0 (less x t u) && v) z ∙ none (ltb 0 (less x t u))
-          ∙ sym (ap (λ (v : Bool). ltb 0 (x u) && v) z ∙ none (ltb 0 (x u)))
+          and-right (ltb 0 (less x t u)) (eqb (N .input u) q) z ∙ sym (and-right (ltb 0 (x u)) (eqb (N .input u) q) z)
       | inr two ↦
           let two′ : 1 < x u = subst (λ (v : ℕ). 1 < x v) (e .0) two in
           ap (λ (v : Bool). v && eqb (N .input u) q) (lt-ltb 0 (less x t u) (omega (arith, e .1)) ∙ sym (lt-ltb 0 (x u) (omega arith)))
     ]
   ]
-    where
-      none : (v : Bool) → (v && false) ≡ false
-      none true = refl
-      none false = refl
 
   module _ (q : ℕ) (why : (N .input t ≡ q → ⊥) ⊎ (1 < x t)) where
     leads-less : (p : ℕ) → leads-to N (less x t) q p ≡ leads-to N x q p
@@ -141,61 +134,6 @@ module _ (N : NetMeaning) (law : NetLaw N) (m : Marking) (x : Tally) (s : Schedu
   abbrev place : ℕ
   place = N .input t
 
-  -- the places that hold a block after the step
-  marked-fired : (q : ℕ) (others : Bool) →
-      (m place ≡ 1 → others ≡ (has (s .marked .word) q && not (eqb q place))) →
-      ((m place ≡ 1 → ⊥) → others ≡ has (s .marked .word) q) →
-      (others || ltb 0 (N .yields t q)) ≡ (ltb q (N .places) && ltb 0 (fired N m t q))
-  marked-fired q others one more = elim (cases-lt q (N .places)) [
-    | inr k ↦
-        let b : has (s .marked .word) q ≡ false = h .marked q ∙ ap (λ (v : Bool). v && ltb 0 (m q)) (le-ltb q (N .places) k) in
-        ap (λ (v : Bool). v || ltb 0 (N .yields t q)) (none b)
-        ∙ le-ltb 0 (N .yields t q) (omega (arith, law .no-yield-outside-places t q k))
-        ∙ sym (ap (λ (v : Bool). v && ltb 0 (fired N m t q)) (le-ltb q (N .places) k))
-    | inl k ↦
-        inside (h .marked q ∙ ap (λ (v : Bool). v && ltb 0 (m q)) (lt-ltb q (N .places) k)) (one-tells place q) (cases-eq (m place) 1)
-        ∙ sym (ap (λ (v : Bool). v && ltb 0 (fired N m t q)) (lt-ltb q (N .places) k))
-  ]
-    where
-      none : has (s .marked .word) q ≡ false → others ≡ false
-      none b = elim (cases-eq (m place) 1) [
-        | inl e ↦ one e ∙ ap (λ (v : Bool). v && not (eqb q place)) b
-        | inr d ↦ more d ∙ b
-      ]
-
-      either : (a b : ℕ) → (ltb 0 a || ltb 0 b) ≡ ltb 0 (a + b)
-      either a b = elim (cases-lt 0 a) [
-        | inl k ↦ ap (λ (v : Bool). v || ltb 0 b) (lt-ltb 0 a k) ∙ sym (lt-ltb 0 (a + b) (omega arith))
-        | inr k ↦ ap (λ (v : Bool). v || ltb 0 b) (le-ltb 0 a k) ∙ ap (ltb 0) (omega arith)
-      ]
-
-      and-so : (v : Bool) → (v && true) ≡ v
-      and-so true = refl
-      and-so false = refl
-
-      and-not : (v : Bool) → (v && false) ≡ false
-      and-not true = refl
-      and-not false = refl
-
-      inside : has (s .marked .word) q ≡ ltb 0 (m q) → ((place ≡ q) × (one-at place q ≡ 1)) ⊎ ((place ≡ q → ⊥) × (one-at place q ≡ 0)) →
-          (m place ≡ 1) ⊎ (m place ≡ 1 → ⊥) → (others || ltb 0 (N .yields t q)) ≡ ltb 0 (fired N m t q)
-      inside b (inl here) (inl e) =
-          let e′ : m q ≡ 1 = subst (λ (u : ℕ). m u ≡ 1) (here .0) e in
-          ap (λ (v : Bool). v || ltb 0 (N .yields t q))
-          (one e ∙ ap (λ (v : Bool). has (s .marked .word) q && not v) (eq-eqb q place (sym (here .0))) ∙ and-not (has (s .marked .word) q))
-          ∙ ap (ltb 0) (omega (arith, here .1))
-      inside b (inl here) (inr d) =
-          let c : 1 < m q = subst (λ (u : ℕ). 1 < m u) (here .0) (omega arith) in
-          ap (λ (v : Bool). v || ltb 0 (N .yields t q)) (more d ∙ b ∙ lt-ltb 0 (m q) (omega arith))
-          ∙ sym (lt-ltb 0 (fired N m t q) (omega (arith, here .1)))
-      inside b (inr there) (inl e) =
-          ap (λ (v : Bool). v || ltb 0 (N .yields t q))
-          (one e ∙ ap (λ (v : Bool). has (s .marked .word) q && not v) (ne-eqb q place (λ z. there .0 (sym z))) ∙ and-so (has (s .marked .word) q) ∙ b)
-          ∙ either (m q) (N .yields t q) ∙ ap (ltb 0) (omega (arith, there .1))
-      inside b (inr there) (inr d) =
-          ap (λ (v : Bool). v || ltb 0 (N .yields t q)) (more d ∙ b)
-          ∙ either (m q) (N .yields t q) ∙ ap (ltb 0) (omega (arith, there .1))
-
   -- the blocks after the step
   held-fired : (q a b : ℕ) (y : Bool) → m q + N .yields t q < 2 ^ 32 → a ≡ m q - one-at place q → y ≡ ltb 0 (N .yields t q) →
       b ≡ cond y (min (a + N .yields t q) (2 ^ 32 - 1)) a → b ≡ fired N m t q
@@ -228,7 +166,7 @@ module _ (N : NetMeaning) (law : NetLaw N) (m : Marking) (x : Tally) (s : Schedu
     yields = λ u p. ap (λ row. has-at row u p) yields ∙ h .yields u p;
     marked = λ q.
         marked q ∙ ap (λ (v : Bool). others q || v) (yields-are q ∙ h .yields t q)
-        ∙ marked-fired q (others q)
+        ∙ marked-fired N law m x s h t i q (others q)
         (λ e. one q (holds ∙ e) ∙ ap (λ (v : ℕ). has (s .marked .word) q && not (eqb q v)) (h .inputs t))
         (λ d. more q (λ e. d (sym holds ∙ e)));
     leads = λ q p k. ap (λ row. has-at row q p) leads ∙ h .leads q p k;

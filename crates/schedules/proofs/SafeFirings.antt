@@ -3,15 +3,15 @@
 use mathlib.Core.Path.{_≡_, refl, sym, ap, subst, _∙_}
 use mathlib.Core.Bool.{Bool, true, false, cond, _&&_}
 use mathlib.Core.Logic.{_⊎_, inl, inr}
-use Prim.Native.Nat.{ℕ, _+_, _-_, _<_, _≤_}
+use Prim.Native.Nat.{ℕ, _+_, _-_, _<_}
 use native.Mathlib.Omega.{arith}
 use lib.Dec.{eqb, ltb}
 use Rattle.std.specs.Orderings.{Decides}
-use Rattle.std.proofs.shelf.Tests.{cases-eq, cases-lt, cases-bool, both-ways, ltb-true, lt-ltb, le-ltb, eqb-true, eq-eqb, ne-eqb, and-parts, and-from, and-left, and-right, cond-true, cond-false}
+use Rattle.std.proofs.shelf.Tests.{cases-eq, cases-bool, both-ways, ltb-true, lt-ltb, eqb-true, eq-eqb, ne-eqb, and-parts, and-from, and-left, and-right, cond-true, cond-false}
 use Rattle.theory.specs.Sums.{sumTo}
 use Rattle.theory.specs.Nets.{NetMeaning, NetLaw}
-use Rattle.theory.specs.Firing.{Marking, one-at, fired}
-use Rattle.theory.specs.Tallies.{Tally, Reached, Cut-off, No-place-cut-off}
+use Rattle.theory.specs.Firing.{Marking, fired}
+use Rattle.theory.specs.Tallies.{Tally, Reached, No-place-cut-off}
 use Rattle.theory.specs.Tallies.Reached.{marked, through}
 use Rattle.theory.specs.Orders.{less}
 use Rattle.theory.specs.Tests.{no-place-cut-off, safe}

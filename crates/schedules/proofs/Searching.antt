@@ -1,11 +1,11 @@
 -- A search over the places that are led to: what holds while it goes on, and what it has found at its end.
-use mathlib.Core.Path.{_≡_, refl, sym, subst, ap, _∙_}
+use mathlib.Core.Path.{_≡_, sym, subst, _∙_}
 use mathlib.Core.Bool.{Bool, true, false, not, _&&_, _||_}
-use mathlib.Core.Logic.{_⊎_, inl, inr}
-use Prim.Native.Nat.{ℕ, _<_}
+use mathlib.Core.Logic.{inl, inr}
+use Prim.Native.Nat.{ℕ}
 use lib.Dec.{eqb, ltb}
 use Rattle.std.specs.Orderings.{Decides}
-use Rattle.std.proofs.shelf.Tests.{both-ways, or-cases, or-left, or-right, and-parts, and-from, and-cases, cases-bool, not-false, eqb-true}
+use Rattle.std.proofs.shelf.Tests.{both-ways, or-cases, or-left, or-right, and-parts, and-cases, not-false, eqb-true}
 use Rattle.schedules.specs.Led.{Led}
 use Rattle.schedules.specs.Led.Led.{from, on}
 

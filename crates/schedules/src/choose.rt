@@ -1,5 +1,5 @@
 //! The next step of the first order: the least that is safe.
-ghost use Prim.Native.Nat.{ℕ, _<_};
+ghost use Prim.Native.Nat.{_<_};
 ghost use Rattle.schedules.specs.Led.{Led};
 ghost use Rattle.schedules.specs.Shows.{Shows};
 ghost use Rattle.schedules.specs.Tables.{has-at, ready-in, keeps-in, last-in, marked-after};

@@ -1,5 +1,5 @@
-use mathlib.Core.Path.{_≡_, sym, _∙_}
-use mathlib.Core.Bool.{true, false}
+use mathlib.Core.Path.{_≡_, sym}
+use mathlib.Core.Bool.{true}
 use Rattle.schedules.specs.Tables.{ready-in}
 use Rattle.schedules.proofs.Chosen.{safe-keeps, safe-last, safe-back}
 use Rattle.schedules.proofs.schedule.Schedule.is_safe.Needs as need

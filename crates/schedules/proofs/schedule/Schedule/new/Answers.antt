@@ -5,7 +5,7 @@ use native.Mathlib.Omega.{arith}
 use lib.Dec.{ltb}
 use Rattle.theory.specs.Nets.{LawfulNet}
 use Rattle.theory.specs.Rows.{at}
-use Rattle.schedules.proofs.Shown.{Tabled, shows-new}
+use Rattle.schedules.proofs.Shown.{shows-new}
 use Rattle.schedules.proofs.schedule.Schedule.new.Needs as need
 
 pub returns : need.returns

@@ -1,4 +1,4 @@
-use mathlib.Core.Path.{sym, ap, _∙_}
+use mathlib.Core.Path.{sym}
 use Prim.Native.Nat.{ℕ, _<_}
 use borrow.Author.Count.{below-more}
 use native.Mathlib.Omega.{arith}
