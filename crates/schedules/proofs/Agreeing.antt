@@ -41,7 +41,6 @@ has-past (x ∷ xs) (suc i) d e p h k = has-past xs i d e p h k
 pub rebuilt-more : (s s′ s″ : Schedule) (n : ℕ) → All-rebuilt s n s′ → Rebuilt s′ n s″ → All-rebuilt s (n + 1) s″
 rebuilt-more s s′ s″ n a r = record {
   else = record {
-    places = r .else .places ∙ a .else .places;
     steps = r .else .steps ∙ a .else .steps;
     held = r .else .held ∙ a .else .held;
     left = r .else .left ∙ a .else .left;

@@ -43,7 +43,6 @@ one-less-at row i j h = elim (cases-eq j i) [
 -- the schedule with another row of what is left
 abbrev pub with-left : Schedule → List ℕ → Schedule
 with-left s row = record {
-  places = s .places;
   steps = s .steps;
   held = s .held;
   left = row;
@@ -91,7 +90,6 @@ module _ (N : NetMeaning) (law : NetLaw N) (m : Marking) (x : Tally) (s : Schedu
       ((q p : ℕ) → q < N .places → has-at (s′ .leads) q p ≡ leads-to N (less x t) q p) →
       ((q : ℕ) → q < N .places → at (s′ .takers) q ≡ takers-at N (less x t) q) → Shows N m (less x t) s′
   shows-less s′ e leads takers = record {
-    places = e .places ∙ h .places;
     steps = e .steps ∙ h .steps;
     held = λ p j. ap (λ row. at row p) (e .held) ∙ h .held p j;
     left = λ u j. ap (λ row. at row u) (e .left) ∙ left-after u j;
@@ -105,7 +103,7 @@ module _ (N : NetMeaning) (law : NetLaw N) (m : Marking) (x : Tally) (s : Schedu
   -- more of the step is left
   pub shows-more-left : 1 < x t → Shows N m (less x t) counted
   shows-more-left two = shows-less counted
-      (record { places = refl; steps = refl; held = refl; left = refl; inputs = refl; yields = refl; marked = refl })
+      (record { steps = refl; held = refl; left = refl; inputs = refl; yields = refl; marked = refl })
       (λ q p j. h .leads q p j ∙ sym (leads-less q (inr two) p))
       (λ q j. h .takers q j ∙ sym (takers-less q (inr two)))
 
@@ -143,7 +141,7 @@ module _ (N : NetMeaning) (law : NetLaw N) (m : Marking) (x : Tally) (s : Schedu
   ]
 
   -- the schedule with the blocks moved
-  pub shows-fired : (s′ : Schedule) → s′ .places ≡ s .places → s′ .steps ≡ s .steps → s′ .left ≡ s .left → s′ .inputs ≡ s .inputs →
+  pub shows-fired : (s′ : Schedule) → s′ .steps ≡ s .steps → s′ .left ≡ s .left → s′ .inputs ≡ s .inputs →
       s′ .yields ≡ s .yields → s′ .leads ≡ s .leads → s′ .takers ≡ s .takers →
       ((q : ℕ) → q < N .places → m q + N .yields t q < 2 ^ 32) → (yields : ℕ → Bool) → ((q : ℕ) → yields q ≡ has-at (s .yields) t q) →
       ((q : ℕ) → q < N .places → at (s′ .held) q
@@ -153,8 +151,7 @@ module _ (N : NetMeaning) (law : NetLaw N) (m : Marking) (x : Tally) (s : Schedu
       ((q : ℕ) → at (s .held) (at (s .inputs) t) ≡ 1 → others q ≡ (has (s .marked .word) q && not (eqb q (at (s .inputs) t)))) →
       ((q : ℕ) → (at (s .held) (at (s .inputs) t) ≡ 1 → ⊥) → others q ≡ has (s .marked .word) q) →
       ((q : ℕ) → has (s′ .marked .word) q ≡ (others q || yields q)) → Shows N (fired N m t) x s′
-  shows-fired s′ places steps left inputs yields leads takers bound y yields-are held others one more marked = record {
-    places = places ∙ h .places;
+  shows-fired s′ steps left inputs yields leads takers bound y yields-are held others one more marked = record {
     steps = steps ∙ h .steps;
     held = λ q k.
         held-fired q (at (set (s .held) (at (s .inputs) t) (at (s .held) (at (s .inputs) t) - 1)) q) (at (s′ .held) q) (y q) (bound q k)

@@ -46,10 +46,9 @@ module _ (N : NetMeaning) (x : Tally) (s : Schedule) (b : Tabled N x s) where
 
 -- what a new schedule shows once its leads and takers are found
 pub shows-new : (N : NetMeaning) → NetLaw N → (m : Marking) (x : Tally) (s s′ : Schedule) → Tabled N x s →
-    s .places ≡ N .places → ((p : ℕ) → p < 64 → at (s .held) p ≡ m p) →
+    ((p : ℕ) → p < 64 → at (s .held) p ≡ m p) →
     ((p : ℕ) → has (s .marked .word) p ≡ (ltb p (N .places) && ltb 0 (m p))) → All-rebuilt s 64 s′ → Shows N m x s′
-shows-new N law m x s s′ b places held marked r = record {
-  places = r .else .places ∙ places;
+shows-new N law m x s s′ b held marked r = record {
   steps = r .else .steps ∙ b .steps;
   held = λ p l. ap (λ row. at row p) (r .else .held) ∙ held p (omega (arith, law .few-places));
   left = λ t l. ap (λ row. at row t) (r .else .left) ∙ b .left t l;

@@ -27,7 +27,6 @@ takers-at N x p = sumTo (λ t. cond (takes N x p t) 1 0) (N .steps)
 
 -- the schedule shows the net, the marking and the tally
 pub record Shows (N : NetMeaning) (m : Marking) (x : Tally) (s : Schedule) : Type 0 where
-  pub places : s .places ≡ N .places
   pub steps : s .steps ≡ N .steps
   pub held : (p : ℕ) → p < N .places → at (s .held) p ≡ m p
   pub left : (t : ℕ) → t < N .steps → at (s .left) t ≡ x t

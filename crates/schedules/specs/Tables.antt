@@ -51,7 +51,6 @@ marked-after s t p = (has (s .marked .word) p && not (eqb p (at (s .inputs) t)))
 
 -- the two differ at most in their leads and takers
 pub record Same-else (s s′ : Schedule) : Type 0 where
-  pub places : s′ .places ≡ s .places
   pub steps : s′ .steps ≡ s .steps
   pub held : s′ .held ≡ s .held
   pub left : s′ .left ≡ s .left

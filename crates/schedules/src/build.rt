@@ -71,7 +71,6 @@ impl Schedule {
     {
         let leads = [PlaceSet::empty(); 64];
         let mut schedule = Schedule {
-            places: net.places(),
             steps: net.steps(),
             held: front(counts, 0),
             left: front(tally, 0),

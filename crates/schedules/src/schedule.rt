@@ -16,7 +16,6 @@ use place_sets::PlaceSet;
 /// can come from there.
 #[derive(Drop)]
 pub struct Schedule {
-    pub(crate) places: u8,
     pub(crate) steps: u16,
     pub(crate) held: [u32; 64],
     pub(crate) left: [u16; 128],

@@ -26,7 +26,7 @@ returns g c m x h l i b =
     c .put-at .ensures
     ∙ ap (λ (p : ℕ). set (s .held) p (c .saturating-sub .result)) there
     ∙ ap (set (s .held) (at (s .inputs) t)) (c .saturating-sub .ensures ∙ ap (λ (v : ℕ). v - 1) count) in
-    shows-fired (L .net) (L .law) m x s h t l i _ refl refl refl refl refl refl refl b (has (c .yields-yields .result .word)) (c .yields-yields .ensures .table)
+    shows-fired (L .net) (L .law) m x s h t l i _ refl refl refl refl refl refl b (has (c .yields-yields .result .word)) (c .yields-yields .ensures .table)
     (λ q k.
     subst (λ (r : List ℕ). at (c .add-yields .last .held) q ≡ cond (has (c .yields-yields .result .word) q) (min (at r q + L .net .yields t q) (2 ^ 32 - 1)) (at r q)) row
     (c .add-yields .ensures q (omega (arith, L .law .few-places))))

@@ -18,6 +18,6 @@ returns g c =
       inputs = c .inputs-of .ensures;
       yields = c .yields-of .ensures;
     })
-    (c .places .ensures) (c .front .ensures)
-    (λ p. c .marked-in .ensures p ∙ ap (λ (v : ℕ). ltb p v && ltb 0 (at (c .args .counts .now) p)) (c .places-2 .ensures))
+    (c .front .ensures)
+    (λ p. c .marked-in .ensures p ∙ ap (λ (v : ℕ). ltb p v && ltb 0 (at (c .args .counts .now) p)) (c .places .ensures))
     (c .rebuild-all .ensures)
