@@ -1,0 +1,3 @@
+pub mod Led
+pub mod Tables
+pub mod Shows
