@@ -25,7 +25,7 @@ pub enum Answer {
 
 /// Makes the call on the board.
 pub fn perform<B: Board>(board: &mut B, call: Call) -> Answer
-    ensures answer { Performed call (counts board.old) (spare board.old) result (counts board.new) (spare board.new) }
+    ensures answer { Performed call (B.counts board.old) (B.spare board.old) result (B.counts board.new) (B.spare board.new) }
 {
     let done = match call {
         Call::Count(place) => return Answer::Number(board.count(place)),
@@ -38,7 +38,7 @@ pub fn perform<B: Board>(board: &mut B, call: Call) -> Answer
 
 /// The counts of the 64 places.
 pub fn all_counts<B: Board>(board: &B) -> [u32; PLACES]
-    ensures answer { (p : ℕ) → slice_index result p ≡ counts board.now p }
+    ensures answer { (p : ℕ) → slice_index result p ≡ B.counts board.now p }
 {
     let mut counts = [0u32; PLACES];
     for place in 0..=LAST_PLACE {

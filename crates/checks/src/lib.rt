@@ -27,7 +27,7 @@ pub struct Target<'a> {
 
 /// Whether there are as many numbers as steps in the tally and as places in the target, and the kind is known.
 pub fn rows_fit<N: Net>(net: &N, tally: &[u16], target: Target<'_>) -> bool
-    ensures { result ≡ rows_fit (meaning net.now).net tally.now (target_of target.entry.numbers.now target.entry.kind) }
+    ensures { result ≡ rows_fit (N.meaning net.now).net tally.now (target_of target.entry.numbers.now target.entry.kind) }
 {
     tally.len() == net.steps() as usize
         && target.numbers.len() == net.places() as usize
@@ -43,7 +43,7 @@ pub fn size_refusal<N: Net>(
     target: Target<'_>,
     memory: usize,
 ) -> Option<Refusal>
-    ensures { (counts : Marking) → result ≡ size_refusal (meaning net.now).net (held counts spare done.now) tally.now (target_of target.entry.numbers.now target.entry.kind) memory }
+    ensures { (counts : Marking) → result ≡ size_refusal (N.meaning net.now).net (held counts spare done.now) tally.now (target_of target.entry.numbers.now target.entry.kind) memory }
 {
     if !rows_fit(net, tally, target) {
         return Some(Refusal::RowsUnfit);
@@ -69,7 +69,7 @@ pub fn survey_refusal<N: Net>(
     target: Target<'_>,
     memory: usize,
 ) -> Option<Refusal>
-    ensures { (counts : Marking) (spare : ℕ) → result ≡ survey_refusal (meaning net.now).net (held counts spare done.now) tally.now (target_of target.entry.numbers.now target.entry.kind) memory }
+    ensures { (counts : Marking) (spare : ℕ) → result ≡ survey_refusal (N.meaning net.now).net (held counts spare done.now) tally.now (target_of target.entry.numbers.now target.entry.kind) memory }
 {
     if !rows_fit(net, tally, target) {
         return Some(Refusal::RowsUnfit);

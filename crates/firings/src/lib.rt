@@ -9,9 +9,9 @@ use totals::asked::yields_of;
 
 /// One put for each place where the step yields, by rising place.
 fn put_yields<N: Net, B: Board>(net: &N, board: &mut B, step: u16)
-    requires { yields_of (meaning net.now).net step ≤ spare board.old }
-    ensures counts { (p : ℕ) → counts board.new p ≡ counts board.old p + (meaning net.now).net.yields step p }
-    ensures spare { spare board.new + yields_of (meaning net.now).net step ≡ spare board.old }
+    requires { yields_of (N.meaning net.now).net step ≤ B.spare board.old }
+    ensures counts { (p : ℕ) → B.counts board.new p ≡ B.counts board.old p + (N.meaning net.now).net.yields step p }
+    ensures spare { B.spare board.new + yields_of (N.meaning net.now).net step ≡ B.spare board.old }
 {
     for place in 0..net.places() {
         let blocks = net.yield_at(step, place);
@@ -24,8 +24,8 @@ fn put_yields<N: Net, B: Board>(net: &N, board: &mut B, step: u16)
 /// Fires the step on the board, where it can be fired and spare holds its yields, and says whether
 /// it did; the board is as it was where it did not.
 pub fn move_blocks<N: Net, B: Board>(net: &N, board: &mut B, step: u16) -> bool
-    ensures answer { result ≡ can_move (meaning net.now).net (counts board.old) (spare board.old) step }
-    ensures after { Moved (meaning net.now).net step result (counts board.old) (spare board.old) (counts board.new) (spare board.new) }
+    ensures answer { result ≡ can_move (N.meaning net.now).net (B.counts board.old) (B.spare board.old) step }
+    ensures after { Moved (N.meaning net.now).net step result (B.counts board.old) (B.spare board.old) (B.counts board.new) (B.spare board.new) }
 {
     let Some(input) = net.input(step) else {
         return false;

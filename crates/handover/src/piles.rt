@@ -95,7 +95,7 @@ fn turned_round() -> [u8; PLACES]
 
 /// Puts the start's blocks down at their places.
 fn lay_out<B: Board>(board: &mut B, start: &[u32]) -> Result<(), Refusal>
-    ensures { OnOk result ((p : ℕ) → p < 64 → counts board.new p ≡ counts board.old p + at start.now p) }
+    ensures { OnOk result ((p : ℕ) → p < 64 → B.counts board.new p ≡ B.counts board.old p + at start.now p) }
 {
     for place in 0..=LAST_PLACE {
         board.put(place, blocks_at(start, place))?;

@@ -135,8 +135,8 @@ fn show_markings<B: Board, C: Board>(
 
 /// How a hand-over ended.
 fn outcome_of<N: Net, B: Board, C: Board>(day: &HandOver<N, B, C>) -> Outcome
-    ensures agree { result ≡ Outcome.Agree → AgreeBelow (meaning day.now.second.net).net.places (B.Board.counts day.now.board) (C.Board.counts day.now.second.board) }
-    ensures differ { result ≡ Outcome.Differ → AgreeBelow (meaning day.now.second.net).net.places (B.Board.counts day.now.board) (C.Board.counts day.now.second.board) → ⊥ }
+    ensures agree { result ≡ Outcome.Agree → AgreeBelow (N.meaning day.now.second.net).net.places (B.counts day.now.board) (C.counts day.now.second.board) }
+    ensures differ { result ≡ Outcome.Differ → AgreeBelow (N.meaning day.now.second.net).net.places (B.counts day.now.board) (C.counts day.now.second.board) → ⊥ }
 {
     if let Answer::Refused(_) = day.replay {
         return Outcome::Refused;
@@ -150,7 +150,7 @@ fn outcome_of<N: Net, B: Board, C: Board>(day: &HandOver<N, B, C>) -> Outcome
 
 /// Whether two boards have the same counts at the first places.
 fn agree<B: Board, C: Board>(places: u8, first: &B, second: &C) -> bool
-    ensures { MatchBool result (AgreeBelow places (B.Board.counts first.now) (C.Board.counts second.now)) (AgreeBelow places (B.Board.counts first.now) (C.Board.counts second.now) → ⊥) }
+    ensures { MatchBool result (AgreeBelow places (B.counts first.now) (C.counts second.now)) (AgreeBelow places (B.counts first.now) (C.counts second.now) → ⊥) }
 {
     for place in 0..places {
         if first.count(place) != second.count(place) {

@@ -46,7 +46,7 @@ fn replay<N: Net + Drop, C: Board + Drop>(
 ) -> Result<(Answer, Sitting<N, C>), AllocError>
     requires long { 128 ≤ length done.now }
     requires wide { 64 ≤ length marking.now }
-    ensures { IfOk result (λ h. Made (meaning net).net (new_on (counts board) (spare board)) (counters_of (meaning net).net (held (at marking.now) 0 done.now) memory) (said_of h.0) (held (counts h.1.board) (spare h.1.board) h.1.done)) }
+    ensures { IfOk result (λ h. Made (N.meaning net).net (new_on (B.counts board) (B.spare board)) (counters_of (N.meaning net).net (held (at marking.now) 0 done.now) memory) (said_of h.0) (held (counts h.1.board) (spare h.1.board) h.1.done)) }
 {
     let tally = done[0..net.steps() as usize].to_vec(heap)?;
     let numbers = marking[0..net.places() as usize].to_vec(heap)?;
@@ -74,7 +74,7 @@ pub fn hand_over<N: Net + Drop, B: Board + Drop, C: Board + Drop>(
 ) -> Result<HandOver<N, B, C>, AllocError>
     ensures promise { Promise }
     ensures pinned { Pinned }
-    ensures handed_over { IfOk result (λ h. HandedOver (meaning net).net (new_on (B.Board.counts first) (B.Board.spare first)) (new_on (C.Board.counts second) (C.Board.spare second)) (map call_of calls.now) memory (map said_of h.said.items) (held (B.Board.counts h.board) (B.Board.spare h.board) h.done) (said_of h.replay) (held (C.Board.counts h.second.board) (C.Board.spare h.second.board) h.second.done)) }
+    ensures handed_over { IfOk result (λ h. HandedOver (N.meaning net).net (new_on (B.counts first) (B.spare first)) (new_on (C.counts second) (C.spare second)) (map call_of calls.now) memory (map said_of h.said.items) (held (B.counts h.board) (B.spare h.board) h.done) (said_of h.replay) (held (C.counts h.second.board) (C.spare h.second.board) h.second.done)) }
 {
     let mut sitting = Sitting::new(net, first);
     let said = perform_all(heap, &mut sitting, calls)?;

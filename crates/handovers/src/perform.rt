@@ -29,7 +29,7 @@ fn resume<N: Net, B: Board>(
     request: &Request,
 ) -> Result<Answer, AllocError>
     ensures net { sitting.new.net ≡ sitting.old.net }
-    ensures performed { Performed (meaning sitting.old.net).net (held (counts sitting.old.board) (spare sitting.old.board) sitting.old.done) (call_of (Call.Resume request.now)) result (held (counts sitting.new.board) (spare sitting.new.board) sitting.new.done) }
+    ensures performed { Performed (N.meaning sitting.old.net).net (held (B.counts sitting.old.board) (B.spare sitting.old.board) sitting.old.done) (call_of (Call.Resume request.now)) result (held (B.counts sitting.new.board) (B.spare sitting.new.board) sitting.new.done) }
 {
     let mut order = vec![in heap; 0u16; request.memory]?;
     let target = target_of(request);
@@ -48,7 +48,7 @@ fn survey<N: Net, B: Board>(
     sitting: &Sitting<N, B>,
     request: &Request,
 ) -> Result<Answer, AllocError>
-    ensures { Performed (meaning sitting.now.net).net (held (counts sitting.now.board) (spare sitting.now.board) sitting.now.done) (call_of (Call.Survey request.now)) result (held (counts sitting.now.board) (spare sitting.now.board) sitting.now.done) }
+    ensures { Performed (N.meaning sitting.now.net).net (held (B.counts sitting.now.board) (B.spare sitting.now.board) sitting.now.done) (call_of (Call.Survey request.now)) result (held (B.counts sitting.now.board) (B.spare sitting.now.board) sitting.now.done) }
 {
     let none = Finding {
         place: 0,
@@ -72,7 +72,7 @@ pub(crate) fn perform<N: Net, B: Board>(
     call: &Call,
 ) -> Result<Answer, AllocError>
     ensures net { sitting.new.net ≡ sitting.old.net }
-    ensures performed { Performed (meaning sitting.old.net).net (held (counts sitting.old.board) (spare sitting.old.board) sitting.old.done) (call_of call.now) result (held (counts sitting.new.board) (spare sitting.new.board) sitting.new.done) }
+    ensures performed { Performed (N.meaning sitting.old.net).net (held (B.counts sitting.old.board) (B.spare sitting.old.board) sitting.old.done) (call_of call.now) result (held (B.counts sitting.new.board) (B.spare sitting.new.board) sitting.new.done) }
 {
     match call {
         Call::Fire(step) => match sitting.fire(*step) {
@@ -91,7 +91,7 @@ pub(crate) fn perform_all<N: Net, B: Board>(
     calls: &[Call],
 ) -> Result<Vec<Answer>, AllocError>
     ensures net { sitting.new.net ≡ sitting.old.net }
-    ensures performed { MatchResult result (λ said. AllMade (meaning sitting.old.net).net (held (counts sitting.old.board) (spare sitting.old.board) sitting.old.done) (map call_of calls.now) (map said_of said.items) (held (counts sitting.new.board) (spare sitting.new.board) sitting.new.done)) (λ _. SomeMade (meaning sitting.old.net).net (held (counts sitting.old.board) (spare sitting.old.board) sitting.old.done) (map call_of calls.now) (held (counts sitting.new.board) (spare sitting.new.board) sitting.new.done)) }
+    ensures performed { MatchResult result (λ said. AllMade (N.meaning sitting.old.net).net (held (B.counts sitting.old.board) (B.spare sitting.old.board) sitting.old.done) (map call_of calls.now) (map said_of said.items) (held (B.counts sitting.new.board) (B.spare sitting.new.board) sitting.new.done)) (λ _. SomeMade (N.meaning sitting.old.net).net (held (B.counts sitting.old.board) (B.spare sitting.old.board) sitting.old.done) (map call_of calls.now) (held (B.counts sitting.new.board) (B.spare sitting.new.board) sitting.new.done)) }
 {
     let mut said = Vec::new(heap);
     for call in calls {

@@ -54,9 +54,9 @@ impl<B: Board> Board for Allowance<B> {
     }
 
     fn take(&mut self, place: u8) -> Result<(), Refusal>
-        ensures answer { TakeSays place (counts self.old.below) (min self.old.left (spare self.old.below)) result (counts self.new.below) (min self.new.left (spare self.new.below)) }
+        ensures answer { TakeSays place (B.counts self.old.below) (min self.old.left (B.spare self.old.below)) result (B.counts self.new.below) (min self.new.left (B.spare self.new.below)) }
         ensures left { self.new.left ≡ left_after_take result self.old.left }
-        ensures below { TakeSays place (counts self.old.below) (spare self.old.below) result (counts self.new.below) (spare self.new.below) }
+        ensures below { TakeSays place (B.counts self.old.below) (B.spare self.old.below) result (B.counts self.new.below) (B.spare self.new.below) }
     {
         self.below.take(place)?;
         if self.left < BOARD_LIMIT {
@@ -66,9 +66,9 @@ impl<B: Board> Board for Allowance<B> {
     }
 
     fn put(&mut self, place: u8, n: u32) -> Result<(), Refusal>
-        ensures answer { PutSays place n (counts self.old.below) (min self.old.left (spare self.old.below)) result (counts self.new.below) (min self.new.left (spare self.new.below)) }
+        ensures answer { PutSays place n (B.counts self.old.below) (min self.old.left (B.spare self.old.below)) result (B.counts self.new.below) (min self.new.left (B.spare self.new.below)) }
         ensures left { self.new.left ≡ left_after_put n result self.old.left }
-        ensures below { PutLeaves place n (counts self.old.below) (spare self.old.below) result (counts self.new.below) (spare self.new.below) }
+        ensures below { PutLeaves place n (B.counts self.old.below) (B.spare self.old.below) result (B.counts self.new.below) (B.spare self.new.below) }
     {
         if place > LAST_PLACE {
             return Err(Refusal::NoSuchPlace);

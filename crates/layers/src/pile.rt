@@ -9,9 +9,9 @@ use refusals::Refusal;
 
 /// Moves one block from one place of a board to another.
 pub fn move_block<B: Board>(board: &mut B, from: u8, to: u8) -> Result<(), Refusal>
-    ensures answer { MoveAnswers from to (counts board.old) result }
-    ensures counts { (p : ℕ) → counts board.new p ≡ counts_after_move from to result (counts board.old) p }
-    ensures spare { spare board.new ≡ spare board.old }
+    ensures answer { MoveAnswers from to (B.counts board.old) result }
+    ensures counts { (p : ℕ) → B.counts board.new p ≡ counts_after_move from to result (B.counts board.old) p }
+    ensures spare { B.spare board.new ≡ B.spare board.old }
 {
     if to > LAST_PLACE {
         return Err(Refusal::NoSuchPlace);
@@ -23,7 +23,7 @@ pub fn move_block<B: Board>(board: &mut B, from: u8, to: u8) -> Result<(), Refus
 /// Moves one block on a pile of four layers over the board; answers how many blocks the pile then
 /// shows at the place moved to.
 pub fn move_on_pile<B: Board + Drop>(below: B, left: u32, from: u8, to: u8) -> Result<u32, Refusal>
-    ensures answer { MoveSays from to (counts below) result }
+    ensures answer { MoveSays from to (B.counts below) result }
 {
     let mut pile = Renaming::new(Allowance::new(Renaming::new(Allowance::new(below, left)), left));
     move_block(&mut pile, from, to)?;

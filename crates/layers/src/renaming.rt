@@ -97,7 +97,7 @@ impl<B: Board> Board for Renaming<B> {
     }
 
     fn take(&mut self, place: u8) -> Result<(), Refusal>
-        ensures answer { TakeSays place (renamed self.old.row (counts self.old.below)) (spare self.old.below) result (renamed self.new.row (counts self.new.below)) (spare self.new.below) }
+        ensures answer { TakeSays place (renamed self.old.row (B.counts self.old.below)) (B.spare self.old.below) result (renamed self.new.row (B.counts self.new.below)) (B.spare self.new.below) }
         ensures row { self.new.row ≡ self.old.row }
     {
         if place > LAST_PLACE {
@@ -110,7 +110,7 @@ impl<B: Board> Board for Renaming<B> {
     }
 
     fn put(&mut self, place: u8, n: u32) -> Result<(), Refusal>
-        ensures answer { PutSays place n (renamed self.old.row (counts self.old.below)) (spare self.old.below) result (renamed self.new.row (counts self.new.below)) (spare self.new.below) }
+        ensures answer { PutSays place n (renamed self.old.row (B.counts self.old.below)) (B.spare self.old.below) result (renamed self.new.row (B.counts self.new.below)) (B.spare self.new.below) }
         ensures row { self.new.row ≡ self.old.row }
     {
         if place > LAST_PLACE {

@@ -76,7 +76,7 @@ pub fn add_found<T: Drop, F: Finds<T>>(
     end: u16,
 ) -> Result<(), Refusal>
     ensures lender { list.new.memory.ghost_name ≡ list.old.memory.ghost_name }
-    ensures adds { AddsFound (at finds.now) end list.old.memory.now list.old.len result list.new.memory.now list.new.len }
+    ensures adds { AddsFound (F.at finds.now) end list.old.memory.now list.old.len result list.new.memory.now list.new.len }
 {
     if list.room() < end as usize {
         return Err(Refusal::ListFull);

@@ -17,8 +17,8 @@ pub(crate) fn cause_refusal<N: Net>(
     schedule: &Schedule,
     target: Target<'_>,
 ) -> Option<Refusal>
-    requires { Shows (meaning asked.now.net.now).net (at asked.now.counts.now) (at asked.now.tally.now) schedule.now }
-    ensures { result ≡ cause_refusal (meaning asked.now.net.now).net (at asked.now.counts.now) (at asked.now.tally.now) (target_of target.entry.numbers.now target.entry.kind) }
+    requires { Shows (N.meaning asked.now.net.now).net (at asked.now.counts.now) (at asked.now.tally.now) schedule.now }
+    ensures { result ≡ cause_refusal (N.meaning asked.now.net.now).net (at asked.now.counts.now) (at asked.now.tally.now) (target_of target.entry.numbers.now target.entry.kind) }
 {
     if let Some(place) = asked.least_short() {
         return Some(Refusal::Short(place));

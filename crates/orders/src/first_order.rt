@@ -24,14 +24,14 @@ pub(crate) fn fire_first_order<N: Net, B: Board>(
     tally: &[u16],
     memory: &mut [u16],
 ) -> usize
-    requires shows { Shows (meaning net.now).net (counts board.old) (at tally.now) schedule }
-    requires can { Realizable (meaning net.now).net (counts board.old) (at tally.now) }
-    requires room { yields_asked (meaning net.now).net (at tally.now) ≤ spare board.old }
-    requires long { steps_asked (meaning net.now).net (at tally.now) ≤ length memory.old }
-    ensures answer { result ≡ length (first_order (meaning net.now).net (counts board.old) (at tally.now)) }
-    ensures memory { memory.new ≡ written (first_order (meaning net.now).net (counts board.old) (at tally.now)) memory.old }
-    ensures counts { counts board.new ≡ after (meaning net.now).net (counts board.old) (first_order (meaning net.now).net (counts board.old) (at tally.now)) }
-    ensures spare { spare board.new ≡ (spare board.old + steps_asked (meaning net.now).net (at tally.now)) - yields_asked (meaning net.now).net (at tally.now) }
+    requires shows { Shows (N.meaning net.now).net (B.counts board.old) (at tally.now) schedule }
+    requires can { Realizable (N.meaning net.now).net (B.counts board.old) (at tally.now) }
+    requires room { yields_asked (N.meaning net.now).net (at tally.now) ≤ B.spare board.old }
+    requires long { steps_asked (N.meaning net.now).net (at tally.now) ≤ length memory.old }
+    ensures answer { result ≡ length (first_order (N.meaning net.now).net (B.counts board.old) (at tally.now)) }
+    ensures memory { memory.new ≡ written (first_order (N.meaning net.now).net (B.counts board.old) (at tally.now)) memory.old }
+    ensures counts { B.counts board.new ≡ after (N.meaning net.now).net (B.counts board.old) (first_order (N.meaning net.now).net (B.counts board.old) (at tally.now)) }
+    ensures spare { B.spare board.new ≡ (B.spare board.old + steps_asked (N.meaning net.now).net (at tally.now)) - yields_asked (N.meaning net.now).net (at tally.now) }
 {
     let mut order = BoundedList::new(memory);
     for _ in 0..steps_asked(net, tally) {

@@ -28,7 +28,7 @@ pub fn fire_tally<'a, N: Net, B: Board>(
     target: Target<'_>,
     memory: &mut [u16],
 ) -> Result<usize, Refusal>
-    ensures { Fired (meaning net.now).net (held (counts board.old) (spare board.old) done.now) tally.now (target_of target.entry.numbers.now target.entry.kind) memory.old result (counts board.new) (spare board.new) memory.new }
+    ensures { Fired (N.meaning net.now).net (held (B.counts board.old) (B.spare board.old) done.now) tally.now (target_of target.entry.numbers.now target.entry.kind) memory.old result (B.counts board.new) (B.spare board.new) memory.new }
 {
     if let Some(refusal) = size_refusal(net, board.spare(), done, tally, target, memory.len()) {
         return Err(refusal);

@@ -12,7 +12,7 @@ use place_sets::PlaceSet;
 
 /// The input of each step; 0 past the last.
 fn inputs_of<N: Net>(net: &N) -> [u8; 128]
-    ensures { (t : ℕ) → at result t ≡ (meaning net.now).net.input t }
+    ensures { (t : ℕ) → at result t ≡ (N.meaning net.now).net.input t }
 {
     let mut inputs = [0; 128];
     for step in 0..STEPS {
@@ -23,7 +23,7 @@ fn inputs_of<N: Net>(net: &N) -> [u8; 128]
 
 /// The places at which a step yields.
 fn yields_at<N: Net>(net: &N, step: u16) -> PlaceSet
-    ensures { (p : ℕ) → has result.word p ≡ nat_lt 0 ((meaning net.now).net.yields step p) }
+    ensures { (p : ℕ) → has result.word p ≡ nat_lt 0 ((N.meaning net.now).net.yields step p) }
 {
     let mut places = PlaceSet::empty();
     for place in 0..PLACES {
@@ -36,7 +36,7 @@ fn yields_at<N: Net>(net: &N, step: u16) -> PlaceSet
 
 /// The places at which each step yields.
 fn yields_of<N: Net>(net: &N) -> [PlaceSet; 128]
-    ensures { (t p : ℕ) → has_at result t p ≡ nat_lt 0 ((meaning net.now).net.yields t p) }
+    ensures { (t p : ℕ) → has_at result t p ≡ nat_lt 0 ((N.meaning net.now).net.yields t p) }
 {
     let mut yields = [PlaceSet::empty(); 128];
     for step in 0..STEPS {
@@ -62,7 +62,7 @@ fn marked_in(held: &[u32], places: u8) -> PlaceSet
 impl Schedule {
     /// Shows the net with these counts at its places and this tally; what a row lacks is 0.
     pub fn new<N: Net>(net: &N, counts: &[u32], tally: &[u16]) -> Schedule
-        ensures { Shows (meaning net.now).net (at counts.now) (at tally.now) result }
+        ensures { Shows (N.meaning net.now).net (at counts.now) (at tally.now) result }
     {
         let leads = [PlaceSet::empty(); 64];
         let mut schedule = Schedule {

@@ -15,7 +15,7 @@ use place_sets::PlaceSet;
 
 /// Adds the yields of a step to the counts of the given places.
 fn add_yields<N: Net>(held: &mut [u32], net: &N, step: u16, places: PlaceSet)
-    ensures { (p : ℕ) → p < length held.old → at held.new p ≡ (if has places.word p then min (at held.old p + (meaning net.now).net.yields step p) (2 ^ 32 - 1) else at held.old p) }
+    ensures { (p : ℕ) → p < length held.old → at held.new p ≡ (if has places.word p then min (at held.old p + (N.meaning net.now).net.yields step p) (2 ^ 32 - 1) else at held.old p) }
 {
     let mut done = PlaceSet::empty();
     while let Some(place) = places.minus(done).first() {
@@ -29,8 +29,8 @@ fn add_yields<N: Net>(held: &mut [u32], net: &N, step: u16, places: PlaceSet)
 impl Schedule {
     /// Fires a step that is left and finds a block; any other leaves the schedule as it is.
     pub fn fire<N: Net>(&mut self, net: &N, step: u16)
-        ensures fired { (m : Marking) (x : Tally) → Shows (meaning net.now).net m x self.old → Ready (meaning net.now).net m x step → Room (meaning net.now).net m step → Shows (meaning net.now).net (fired (meaning net.now).net m step) (less x step) self.new }
-        ensures same { (m : Marking) (x : Tally) → Shows (meaning net.now).net m x self.old → (Ready (meaning net.now).net m x step → ⊥) → self.new ≡ self.old }
+        ensures fired { (m : Marking) (x : Tally) → Shows (N.meaning net.now).net m x self.old → Ready (N.meaning net.now).net m x step → Room (N.meaning net.now).net m step → Shows (N.meaning net.now).net (fired (N.meaning net.now).net m step) (less x step) self.new }
+        ensures same { (m : Marking) (x : Tally) → Shows (N.meaning net.now).net m x self.old → (Ready (N.meaning net.now).net m x step → ⊥) → self.new ≡ self.old }
     {
         if step < self.steps && self.is_ready(step) {
             self.count_down(step);
@@ -52,7 +52,7 @@ impl Schedule {
 
     /// Takes a block at the input place of a step and puts its yields down.
     fn move_blocks<N: Net>(&mut self, net: &N, step: u16)
-        ensures { (m : Marking) (x : Tally) → Shows (meaning net.now).net m x self.old → step < (meaning net.now).net.steps → 0 < m ((meaning net.now).net.input step) → Room (meaning net.now).net m step → Shows (meaning net.now).net (fired (meaning net.now).net m step) x self.new }
+        ensures { (m : Marking) (x : Tally) → Shows (N.meaning net.now).net m x self.old → step < (N.meaning net.now).net.steps → 0 < m ((N.meaning net.now).net.input step) → Room (N.meaning net.now).net m step → Shows (N.meaning net.now).net (fired (N.meaning net.now).net m step) x self.new }
     {
         let place = self.input(step);
         let yields = self.yields(step);

@@ -13,7 +13,7 @@ pub trait Test {
 
 /// The least number below `end` that passes.
 pub fn least_below<T: Test>(test: &T, end: u16) -> Option<u16>
-    ensures answer { result ≡ least (passes test.now) end }
+    ensures answer { result ≡ least (T.passes test.now) end }
     ensures below { IfSome result (λ k. k < end) }
 {
     for number in 0..end {

@@ -53,11 +53,11 @@ fn resume_sheet<N: Net + Drop, B: Board + Drop>(
     order: &mut [u16],
 ) -> Result<usize, Refusal>
     requires parts { PartsOf sheet.now parts }
-    requires places { (meaning net).net.places ≡ chained_places sheet.now }
-    requires steps { (meaning net).net.steps ≡ chained_steps sheet.now }
-    ensures answer { result ≡ resume_answer (meaning net).net (new_on (counts board) (spare board)) (tally_of sheet.now) (target_in sheet.now) (length order.old) }
+    requires places { (N.meaning net).net.places ≡ chained_places sheet.now }
+    requires steps { (N.meaning net).net.steps ≡ chained_steps sheet.now }
+    ensures answer { result ≡ resume_answer (N.meaning net).net (new_on (B.counts board) (B.spare board)) (tally_of sheet.now) (target_in sheet.now) (length order.old) }
     ensures fits { IfOk result (λ n. n ≤ length order.old) }
-    ensures memory { order.new ≡ order_memory (meaning net).net (new_on (counts board) (spare board)) (tally_of sheet.now) (target_in sheet.now) order.old }
+    ensures memory { order.new ≡ order_memory (N.meaning net).net (new_on (B.counts board) (B.spare board)) (tally_of sheet.now) (target_in sheet.now) order.old }
 {
     let places = net.places();
     let steps = net.steps();

@@ -21,8 +21,8 @@ impl<N: Net, B: Board> Sitting<N, B> {
     /// Does one step: fires it on the board and counts it in the done row.
     pub fn fire(&mut self, step: u16) -> Result<(), Refusal>
         ensures net { self.new.net ≡ self.old.net }
-        ensures answer { result ≡ fire_answer (meaning self.old.net).net (held (counts self.old.board) (spare self.old.board) self.old.done) step }
-        ensures after { held (counts self.new.board) (spare self.new.board) self.new.done ≡ unless (fire_refusal (meaning self.old.net).net (held (counts self.old.board) (spare self.old.board) self.old.done) step) (held (counts self.old.board) (spare self.old.board) self.old.done) (after_fire (meaning self.old.net).net (held (counts self.old.board) (spare self.old.board) self.old.done) step) }
+        ensures answer { result ≡ fire_answer (N.meaning self.old.net).net (held (B.counts self.old.board) (B.spare self.old.board) self.old.done) step }
+        ensures after { held (B.counts self.new.board) (B.spare self.new.board) self.new.done ≡ unless (fire_refusal (N.meaning self.old.net).net (held (B.counts self.old.board) (B.spare self.old.board) self.old.done) step) (held (B.counts self.old.board) (B.spare self.old.board) self.old.done) (after_fire (N.meaning self.old.net).net (held (B.counts self.old.board) (B.spare self.old.board) self.old.done) step) }
     {
         let Some(input) = self.net.input(step) else {
             return Err(Refusal::NoSuchStep);
@@ -50,9 +50,9 @@ impl<N: Net, B: Board> Sitting<N, B> {
         order: &mut [u16],
     ) -> Result<usize, Refusal>
         ensures net { self.new.net ≡ self.old.net }
-        ensures answer { result ≡ resume_answer (meaning self.old.net).net (held (counts self.old.board) (spare self.old.board) self.old.done) tally.now (target_of target.entry.numbers.now target.entry.kind) (length order.old) }
-        ensures after { held (counts self.new.board) (spare self.new.board) self.new.done ≡ unless (resume_refusal (meaning self.old.net).net (held (counts self.old.board) (spare self.old.board) self.old.done) tally.now (target_of target.entry.numbers.now target.entry.kind) (length order.old)) (held (counts self.old.board) (spare self.old.board) self.old.done) (after_resume (meaning self.old.net).net (held (counts self.old.board) (spare self.old.board) self.old.done) tally.now) }
-        ensures memory { order.new ≡ order_memory (meaning self.old.net).net (held (counts self.old.board) (spare self.old.board) self.old.done) tally.now (target_of target.entry.numbers.now target.entry.kind) order.old }
+        ensures answer { result ≡ resume_answer (N.meaning self.old.net).net (held (B.counts self.old.board) (B.spare self.old.board) self.old.done) tally.now (target_of target.entry.numbers.now target.entry.kind) (length order.old) }
+        ensures after { held (B.counts self.new.board) (B.spare self.new.board) self.new.done ≡ unless (resume_refusal (N.meaning self.old.net).net (held (B.counts self.old.board) (B.spare self.old.board) self.old.done) tally.now (target_of target.entry.numbers.now target.entry.kind) (length order.old)) (held (B.counts self.old.board) (B.spare self.old.board) self.old.done) (after_resume (N.meaning self.old.net).net (held (B.counts self.old.board) (B.spare self.old.board) self.old.done) tally.now) }
+        ensures memory { order.new ≡ order_memory (N.meaning self.old.net).net (held (B.counts self.old.board) (B.spare self.old.board) self.old.done) tally.now (target_of target.entry.numbers.now target.entry.kind) order.old }
     {
         let table = NetTable::read(&self.net);
         let length = fire_tally(&table, &mut self.board, &self.done, tally, target, order)?;
@@ -68,8 +68,8 @@ impl<N: Net, B: Board> Sitting<N, B> {
         target: Target<'_>,
         findings: &mut [Finding],
     ) -> Result<usize, Refusal>
-        ensures answer { result ≡ survey_answer (meaning self.now.net).net (held (counts self.now.board) (spare self.now.board) self.now.done) tally.now (target_of target.entry.numbers.now target.entry.kind) (length findings.old) }
-        ensures memory { findings.new ≡ findings_memory (meaning self.now.net).net (held (counts self.now.board) (spare self.now.board) self.now.done) tally.now (target_of target.entry.numbers.now target.entry.kind) findings.old }
+        ensures answer { result ≡ survey_answer (N.meaning self.now.net).net (held (B.counts self.now.board) (B.spare self.now.board) self.now.done) tally.now (target_of target.entry.numbers.now target.entry.kind) (length findings.old) }
+        ensures memory { findings.new ≡ findings_memory (N.meaning self.now.net).net (held (B.counts self.now.board) (B.spare self.now.board) self.now.done) tally.now (target_of target.entry.numbers.now target.entry.kind) findings.old }
     {
         let table = NetTable::read(&self.net);
         list_findings(&table, &self.board, &self.done, tally, target, findings)

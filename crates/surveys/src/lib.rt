@@ -27,8 +27,8 @@ pub fn list_findings<'a, N: Net, B: Board>(
     target: Target<'_>,
     memory: &mut [Finding],
 ) -> Result<usize, Refusal>
-    ensures answer { result ≡ survey_answer (meaning net.now).net (held (counts board.now) (spare board.now) done.now) tally.now (target_of target.entry.numbers.now target.entry.kind) (length memory.old) }
-    ensures memory { memory.new ≡ findings_memory (meaning net.now).net (held (counts board.now) (spare board.now) done.now) tally.now (target_of target.entry.numbers.now target.entry.kind) memory.old }
+    ensures answer { result ≡ survey_answer (N.meaning net.now).net (held (B.counts board.now) (B.spare board.now) done.now) tally.now (target_of target.entry.numbers.now target.entry.kind) (length memory.old) }
+    ensures memory { memory.new ≡ findings_memory (N.meaning net.now).net (held (B.counts board.now) (B.spare board.now) done.now) tally.now (target_of target.entry.numbers.now target.entry.kind) memory.old }
 {
     if let Some(refusal) = survey_refusal(net, done, tally, target, memory.len()) {
         return Err(refusal);

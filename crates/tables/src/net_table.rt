@@ -25,7 +25,7 @@ pub struct NetTable {
 impl NetTable {
     /// Reads every answer of a net.
     pub fn read<N: Net>(net: &N) -> NetTable
-        ensures { table_net result.places result.steps result.inputs result.yields ≡ (meaning net.now).net }
+        ensures { table_net result.places result.steps result.inputs result.yields ≡ (N.meaning net.now).net }
     {
         let mut inputs = [0; 128];
         let mut yields = [0; 8192];

@@ -27,7 +27,7 @@ impl Terms for Numbers<'_> {
 
 /// How many steps the tally asks for.
 pub fn steps_asked<N: Net>(net: &N, tally: &[u16]) -> u64
-    ensures answer { result ≡ steps_asked (meaning net.now).net (at tally.now) }
+    ensures answer { result ≡ steps_asked (N.meaning net.now).net (at tally.now) }
     ensures bound { result < 2 ^ 48 }
 {
     sum_below(&Numbers(tally), net.steps())
@@ -62,7 +62,7 @@ impl<N: Net> Terms for StepYields<'_, N> {
 
 /// All blocks that one firing of the step yields.
 pub fn yields_of<N: Net>(net: &N, step: u16) -> u32
-    ensures answer { result ≡ yields_of (meaning net.now).net step }
+    ensures answer { result ≡ yields_of (N.meaning net.now).net step }
     ensures bound { result < 2 ^ 14 }
 {
     sum_below(&StepYields { net, step }, net.places() as u16) as u32
@@ -89,7 +89,7 @@ impl<N: Net> Terms for TallyYields<'_, N> {
 
 /// All blocks that the steps of the tally yield.
 pub fn yields_asked<'a, N: Net>(net: &'a N, tally: &'a [u16]) -> u64
-    ensures answer { result ≡ yields_asked (meaning net.now).net (at tally.now) }
+    ensures answer { result ≡ yields_asked (N.meaning net.now).net (at tally.now) }
     ensures bound { result < 2 ^ 48 }
 {
     sum_below(&TallyYields { net, tally }, net.steps())
@@ -118,7 +118,7 @@ impl<N: Net> Terms for SpentAt<'_, N> {
 
 /// The blocks that the steps of the tally take from the place.
 pub fn spent<'a, N: Net>(net: &'a N, tally: &'a [u16], place: u8) -> u64
-    ensures answer { result ≡ spent (meaning net.now).net (at tally.now) place }
+    ensures answer { result ≡ spent (N.meaning net.now).net (at tally.now) place }
     ensures bound { result < 2 ^ 48 }
 {
     sum_below(&SpentAt { net, tally, place }, net.steps())
@@ -146,7 +146,7 @@ impl<N: Net> Terms for GainedAt<'_, N> {
 
 /// The blocks that the steps of the tally yield at the place.
 pub fn gained<'a, N: Net>(net: &'a N, tally: &'a [u16], place: u8) -> u64
-    ensures answer { result ≡ gained (meaning net.now).net (at tally.now) place }
+    ensures answer { result ≡ gained (N.meaning net.now).net (at tally.now) place }
     ensures bound { result < 2 ^ 48 }
 {
     sum_below(&GainedAt { net, tally, place }, net.steps())

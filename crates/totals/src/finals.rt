@@ -25,7 +25,7 @@ pub struct Asked<'a, N> {
 impl<N: Net> Asked<'_, N> {
     /// The blocks that the place has and gains.
     fn has_and_gains(&self, place: u8) -> u64
-        ensures answer { result ≡ at self.now.counts.now place + gained (meaning self.now.net.now).net (at self.now.tally.now) place }
+        ensures answer { result ≡ at self.now.counts.now place + gained (N.meaning self.now.net.now).net (at self.now.tally.now) place }
         ensures bound { result < 2 ^ 49 }
     {
         item_or(self.counts, place as usize, 0) as u64 + gained(self.net, self.tally, place)
@@ -33,14 +33,14 @@ impl<N: Net> Asked<'_, N> {
 
     /// Whether more is spent at the place than it has and gains.
     pub fn is_short(&self, place: u8) -> bool
-        ensures { result ≡ is_short (meaning self.now.net.now).net (at self.now.counts.now) (at self.now.tally.now) place }
+        ensures { result ≡ is_short (N.meaning self.now.net.now).net (at self.now.counts.now) (at self.now.tally.now) place }
     {
         self.has_and_gains(place) < spent(self.net, self.tally, place)
     }
 
     /// The final number of the place.
     pub fn final_number(&self, place: u8) -> i64
-        ensures answer { result ≡ final_number (meaning self.now.net.now).net (at self.now.counts.now) (at self.now.tally.now) place }
+        ensures answer { result ≡ final_number (N.meaning self.now.net.now).net (at self.now.counts.now) (at self.now.tally.now) place }
         ensures bound { (neg_ℤ (pos (2 ^ 48)) <ℤ result) × (result <ℤ pos (2 ^ 49)) }
     {
         self.has_and_gains(place) as i64 - spent(self.net, self.tally, place) as i64
@@ -49,7 +49,7 @@ impl<N: Net> Asked<'_, N> {
     /// Whether the final number of the place differs from an exact target (kind 0), or lies below
     /// an at-least target (any other kind).
     pub fn is_missed(&self, target: &[u32], kind: u8, place: u8) -> bool
-        ensures { result ≡ is_missed (meaning self.now.net.now).net (at self.now.counts.now) (at self.now.tally.now) (record { numbers = target.now; kind = kind }) place }
+        ensures { result ≡ is_missed (N.meaning self.now.net.now).net (at self.now.counts.now) (at self.now.tally.now) (record { numbers = target.now; kind = kind }) place }
     {
         let here = self.has_and_gains(place);
         let wanted = item_or(target, place as usize, 0) as u64 + spent(self.net, self.tally, place);
@@ -62,21 +62,21 @@ impl<N: Net> Asked<'_, N> {
 
     /// The final number of the place less the target.
     pub fn missed_by(&self, target: &[u32], place: u8) -> i64
-        ensures { result ≡ final_number (meaning self.now.net.now).net (at self.now.counts.now) (at self.now.tally.now) place -ℤ pos (at target.now place) }
+        ensures { result ≡ final_number (N.meaning self.now.net.now).net (at self.now.counts.now) (at self.now.tally.now) place -ℤ pos (at target.now place) }
     {
         self.final_number(place) - item_or(target, place as usize, 0) as i64
     }
 
     /// The least short place.
     pub fn least_short(&self) -> Option<u8>
-        ensures { result ≡ least (is_short (meaning self.now.net.now).net (at self.now.counts.now) (at self.now.tally.now)) (meaning self.now.net.now).net.places }
+        ensures { result ≡ least (is_short (N.meaning self.now.net.now).net (at self.now.counts.now) (at self.now.tally.now)) (N.meaning self.now.net.now).net.places }
     {
         least_place(&ShortPlaces(self), self.net.places())
     }
 
     /// The least place that misses the target.
     pub fn least_missed(&self, target: &[u32], kind: u8) -> Option<u8>
-        ensures { result ≡ least (is_missed (meaning self.now.net.now).net (at self.now.counts.now) (at self.now.tally.now) (record { numbers = target.now; kind = kind })) (meaning self.now.net.now).net.places }
+        ensures { result ≡ least (is_missed (N.meaning self.now.net.now).net (at self.now.counts.now) (at self.now.tally.now) (record { numbers = target.now; kind = kind })) (N.meaning self.now.net.now).net.places }
     {
         let missed = MissedPlaces {
             asked: self,
@@ -117,7 +117,7 @@ impl<N: Net> Test for MissedPlaces<'_, '_, '_, N> {
 
 /// The least of so many places that passes.
 fn least_place<T: Test>(test: &T, places: u8) -> Option<u8>
-    ensures { result ≡ least (passes test.now) places }
+    ensures { result ≡ least (T.passes test.now) places }
 {
     match least_below(test, places as u16) {
         Some(place) => Some(place as u8),

@@ -13,7 +13,7 @@ pub trait Terms {
 
 /// The sum of the terms with a number below `end`.
 pub fn sum_below<T: Terms>(terms: &T, end: u16) -> u64
-    ensures answer { result ≡ sum_to (value terms.now) end }
+    ensures answer { result ≡ sum_to (T.value terms.now) end }
     ensures bound { result < 2 ^ 48 }
 {
     let mut sum = 0u64;

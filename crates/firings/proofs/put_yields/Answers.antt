@@ -18,20 +18,20 @@ loop-place-preserved g c =
     let b₀ = c.args.board.now in
     let b = c.loop-place.board in
     let b' = c.if-blocks-gt0.board in
-    let y = c.yield-at-blocks.ensures in
+    let y = c.yield_at-blocks.ensures in
     let inside : p < N.net.places = omega (arith, c.loop-place-test.true, c.places-place-end.ensures) in
     let low : p ≤ 63 = omega (arith, N.law.few_places) in
-    let fits : c.yield-at-blocks.result ≤ R b = omega (arith, c.requires, c.loop-place.invariant.1, y, sum_to_front Y N.net.places p inside) in
+    let fits : c.yield_at-blocks.result ≤ R b = omega (arith, c.requires, c.loop-place.invariant.1, y, sum_to_front Y N.net.places p inside) in
     put_more (H b₀) (R b₀) Y p (H b) (R b) (H b') (R b') c.loop-place.invariant
     (λ q. elim c.if-blocks-gt0.branch [
       | then-blocks-gt0 w ↦
-          let d = put_accepted p c.yield-at-blocks.result (H b) (R b) w.put.result (H w.put.new.self) (R w.put.new.self) low fits w.put.ensures.answer in
+          let d = put_accepted p c.yield_at-blocks.result (H b) (R b) w.put.result (H w.put.new.self) (R w.put.new.self) low fits w.put.ensures.answer in
           ap (λ x. H x q) w.board-is ∙ d.raised q ∙ ap (λ n. H b q + at p q n) y
       | else-blocks-gt0 w ↦ ap (λ x. H x q) w.board-is ∙ omega (arith, at_zero p q (Y p) (omega (arith, w.if-blocks-gt0.false, y)))
     ])
     (elim c.if-blocks-gt0.branch [
       | then-blocks-gt0 w ↦
-          let d = put_accepted p c.yield-at-blocks.result (H b) (R b) w.put.result (H w.put.new.self) (R w.put.new.self) low fits w.put.ensures.answer in
+          let d = put_accepted p c.yield_at-blocks.result (H b) (R b) w.put.result (H w.put.new.self) (R w.put.new.self) low fits w.put.ensures.answer in
           omega (arith, ap R w.board-is, d.lowered, y)
       | else-blocks-gt0 w ↦ omega (arith, ap R w.board-is, w.if-blocks-gt0.false, y)
     ])

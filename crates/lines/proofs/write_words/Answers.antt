@@ -6,8 +6,8 @@ use Rattle.lines.proofs.Appending.{appends_both}
 use Rattle.lines.proofs.Decimals.{words_long}
 use Rattle.lines.proofs.write_words.Goals as goal
 
-pub returns-in-default : goal.returns-in-default
-returns-in-default c = (omega (arith, c.in-default.ensures, words_long c.args.word.now c.args.row.now), refl, refl)
+pub returns-in_default : goal.returns-in_default
+returns-in_default c = (omega (arith, c.in_default.ensures, words_long c.args.word.now c.args.row.now), refl, refl)
 
 pub returns-then-left-word : goal.returns-then-left-word
 returns-then-left-word c = (omega (arith, c.in-Some.ensures, words_long c.args.word.now c.args.row.now), refl, refl)
@@ -17,16 +17,16 @@ returns c =
     let word = c.args.word.now in
     let row = c.args.row.now in
     let l = c.new-line.result in
-    let l₁ = c.add-bytes.new.line in
-    let l₂ = c.add-numbers.new.line in
-    let l₃ = c.add-byte.new.line in
+    let l₁ = c.add_bytes.new.line in
+    let l₂ = c.add_numbers.new.line in
+    let l₃ = c.add_byte.new.line in
     let lent = l.memory.now in
     let line = words word row in
     let long = words_long word row in
     let fits : length line ≤ length lent = omega (arith, c.in-Some.ensures, ap length c.new-line.ensures.memory) in
     let none : Written lent [] lent l.len = record { fits = omega arith; front = refl; long = c.new-line.ensures.empty } in
-    let all = appends_both word (numbers row ++ (10 ∷ [])) lent l.len l₁.memory.now l₁.len l₃.memory.now l₃.len c.add-bytes.ensures.appends
-    (appends_both (numbers row) (10 ∷ []) l₁.memory.now l₁.len l₂.memory.now l₂.len l₃.memory.now l₃.len c.add-numbers.ensures.appends c.add-byte.ensures.appends) in
+    let all = appends_both word (numbers row ++ (10 ∷ [])) lent l.len l₁.memory.now l₁.len l₃.memory.now l₃.len c.add_bytes.ensures.appends
+    (appends_both (numbers row) (10 ∷ []) l₁.memory.now l₁.len l₂.memory.now l₂.len l₃.memory.now l₃.len c.add_numbers.ensures.appends c.add_byte.ensures.appends) in
     let w = all lent [] none (omega arith) in
     let front : l₃.memory.now ≡ written line c.args.text.now = w.front ∙ ap (written line) c.new-line.ensures.memory in
     (omega (arith, ap length c.new-line.ensures.memory), c.len.ensures ∙ w.long, search rules)

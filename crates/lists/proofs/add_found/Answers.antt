@@ -4,7 +4,7 @@ use Rattle.lists.specs.Lists.{found_below}
 use Rattle.lists.proofs.Written.{Written, written_more}
 use Rattle.lists.proofs.Founds.{found_few, front_more, written_front, written_at, extended}
 use Rattle.lists.proofs.add_found.Goals as goal
-use Rattle.lists.proofs.add_found.Goals.{in-Some, in-default}
+use Rattle.lists.proofs.add_found.Goals.{in-Some, in_default}
 
 pub loop-number-init : goal.loop-number-init
 loop-number-init g c =
@@ -30,9 +30,9 @@ loop-number-preserved g c =
             ap (λ l. l.memory.ghost_name) w.list-is ∙ (w.add.ensures.lender ∙ inv.0),
             written_at lent (so_far ++ (x ∷ [])) (front ++ found_below at (n + 1)) c.match-find.list w.add.new.self w.list-is (front_more front at n (Some x) w.in-Some.ensures) more,
           ))
-      | in-default w ↦ (
+      | in_default w ↦ (
         ap (λ l. l.memory.ghost_name) w.list-is ∙ inv.0,
-        written_at lent so_far (front ++ found_below at (n + 1)) c.match-find.list list w.list-is (sym (append-nil so_far) ∙ front_more front at n None w.in-default.ensures) inv.1,
+        written_at lent so_far (front ++ found_below at (n + 1)) c.match-find.list list w.list-is (sym (append-nil so_far) ∙ front_more front at n None w.in_default.ensures) inv.1,
       )
     ]
 

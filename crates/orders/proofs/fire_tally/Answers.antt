@@ -26,8 +26,8 @@ returns-in-Some g c =
     refused_tally N.net s tally T memory c.in-Some.refusal
     (or_first (size_refusal N.net s tally T (length memory)) (cause_refusal N.net H (at tally) T) c.in-Some.refusal (sym size ∙ c.in-Some.is))
 
-pub returns-in-Some-cause-refusal : goal.returns-in-Some-cause-refusal
-returns-in-Some-cause-refusal g c =
+pub returns-in-Some-cause_refusal : goal.returns-in-Some-cause_refusal
+returns-in-Some-cause_refusal g c =
     let N = g.N.Net.meaning c.args.net.now in
     let b = c.args.board.now in
     let H = g.B.Board.counts b in
@@ -39,14 +39,14 @@ returns-in-Some-cause-refusal g c =
     let s = held H R done in
     let size : c.size_refusal.result ≡ size_refusal N.net s tally T (length memory) =
     c.size_refusal.ensures H ∙ ap (λ z. size_refusal N.net (held H z done) tally T (length memory)) c.spare.ensures.answer in
-    let counted : at c.all-counts-counts.result ≡ H = fun_ext c.all-counts-counts.ensures.answer in
+    let counted : at c.all_counts-counts.result ≡ H = fun_ext c.all_counts-counts.ensures.answer in
     let cause : c.cause_refusal.result ≡ cause_refusal N.net H (at tally) T =
     c.cause_refusal.ensures ∙ ap (λ z. cause_refusal N.net z (at tally) T) counted in
-    refused_tally N.net s tally T memory c.in-Some-cause-refusal.refusal
-    (or_second (size_refusal N.net s tally T (length memory)) (cause_refusal N.net H (at tally) T) c.in-Some-cause-refusal.refusal (sym size ∙ c.in-default.is) (sym cause ∙ c.in-Some-cause-refusal.is))
+    refused_tally N.net s tally T memory c.in-Some-cause_refusal.refusal
+    (or_second (size_refusal N.net s tally T (length memory)) (cause_refusal N.net H (at tally) T) c.in-Some-cause_refusal.refusal (sym size ∙ c.in_default.is) (sym cause ∙ c.in-Some-cause_refusal.is))
 
-pub fire-first-order-requires : goal.fire-first-order-requires
-fire-first-order-requires g c =
+pub fire_first_order-requires : goal.fire_first_order-requires
+fire_first_order-requires g c =
     let N = g.N.Net.meaning c.args.net.now in
     let b = c.args.board.now in
     let H = g.B.Board.counts b in
@@ -58,11 +58,11 @@ fire-first-order-requires g c =
     let s = held H R done in
     let size : c.size_refusal.result ≡ size_refusal N.net s tally T (length memory) =
     c.size_refusal.ensures H ∙ ap (λ z. size_refusal N.net (held H z done) tally T (length memory)) c.spare.ensures.answer in
-    let counted : at c.all-counts-counts.result ≡ H = fun_ext c.all-counts-counts.ensures.answer in
+    let counted : at c.all_counts-counts.result ≡ H = fun_ext c.all_counts-counts.ensures.answer in
     let cause : c.cause_refusal.result ≡ cause_refusal N.net H (at tally) T =
     c.cause_refusal.ensures ∙ ap (λ z. cause_refusal N.net z (at tally) T) counted in
     let none : resume_refusal N.net s tally T (length memory) ≡ None =
-    or_none (size_refusal N.net s tally T (length memory)) (cause_refusal N.net H (at tally) T) (sym size ∙ c.in-default.is) (sym cause ∙ c.in-default-cause-refusal.is) in
+    or_none (size_refusal N.net s tally T (length memory)) (cause_refusal N.net H (at tally) T) (sym size ∙ c.in_default.is) (sym cause ∙ c.in_default-cause_refusal.is) in
     let such = such_now N.net N.law s tally T (length memory) none in
     let fits = fits_now N.net N.law s tally T (length memory) none in
     let P : Marking → Type 0 = λ z. Shows N.net z (at tally) c.new-schedule.result in
@@ -86,12 +86,12 @@ returns g c =
     let s = held H R done in
     let size : c.size_refusal.result ≡ size_refusal N.net s tally T (length memory) =
     c.size_refusal.ensures H ∙ ap (λ z. size_refusal N.net (held H z done) tally T (length memory)) c.spare.ensures.answer in
-    let counted : at c.all-counts-counts.result ≡ H = fun_ext c.all-counts-counts.ensures.answer in
+    let counted : at c.all_counts-counts.result ≡ H = fun_ext c.all_counts-counts.ensures.answer in
     let cause : c.cause_refusal.result ≡ cause_refusal N.net H (at tally) T =
     c.cause_refusal.ensures ∙ ap (λ z. cause_refusal N.net z (at tally) T) counted in
     let none : resume_refusal N.net s tally T (length memory) ≡ None =
-    or_none (size_refusal N.net s tally T (length memory)) (cause_refusal N.net H (at tally) T) (sym size ∙ c.in-default.is) (sym cause ∙ c.in-default-cause-refusal.is) in
-    let fired = c.fire-first-order in
+    or_none (size_refusal N.net s tally T (length memory)) (cause_refusal N.net H (at tally) T) (sym size ∙ c.in_default.is) (sym cause ∙ c.in_default-cause_refusal.is) in
+    let fired = c.fire_first_order in
     let b' = fired.new.board in
     accepted_tally N.net s tally T memory fired.result (g.B.Board.counts b') (g.B.Board.spare b') fired.new.memory none
     fired.ensures.answer fired.ensures.counts fired.ensures.spare fired.ensures.memory

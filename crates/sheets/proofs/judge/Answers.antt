@@ -9,10 +9,10 @@ use Rattle.sheets.specs.Verdicts.{sheet_refusal, sheet_order, sheet_line, line_f
 use Rattle.sheets.proofs.Judging.{judged}
 use Rattle.sheets.proofs.judge.Goals as goal
 
-pub slice-bounds-write-order-end : goal.slice-bounds-write-order-end
+pub slice-bounds-write-order-end : goal.slice-bounds-write_order-end
 slice-bounds-write-order-end c =
     let fits : c.in-Ok.length ≤ 4096 = omega (arith, c.in-Ok.ensures.fits, length-replicate {A = ℕ} 4096 0) in
-    let long : length c.find-order.new.order ≡ 4096 = c.find-order.auto.order ∙ length-replicate {A = ℕ} 4096 0 in
+    let long : length c.find_order.new.order ≡ 4096 = c.find_order.auto.order ∙ length-replicate {A = ℕ} 4096 0 in
     search rules
 
 pub returns-in-Ok : goal.returns-in-Ok
@@ -21,25 +21,25 @@ returns-in-Ok c =
     let order = sheet_order sheet in
     let memory : List ℕ = replicate 4096 0 in
     let n = c.in-Ok.length in
-    let found = c.find-order.ensures in
+    let found = c.find_order.ensures in
     let none : sheet_refusal sheet ≡ None = accepted_with (sheet_refusal sheet) (length order) n (sym c.in-Ok.is ∙ found.answer) in
     let long : n ≡ length order =
     let w : Ok n ≡ answered None (length order) = sym c.in-Ok.is ∙ found.answer ∙ ap (λ z. answered z (length order)) none in cc in
-    let part : take (n - 0) c.find-order.new.order ≡ order =
+    let part : take (n - 0) c.find_order.new.order ≡ order =
     ap (take (n - 0)) (found.order ∙ ap (λ z. unless z memory (written order memory)) none) ∙ take_at order (drop (length order) memory) (n - 0) (omega arith) in
-    let line : ok_line (take (n - 0) c.find-order.new.order) ≡ sheet_line sheet = ap ok_line part ∙ ap (λ z. line_for z order) (sym none) in
-    let L : List ℕ → Type 0 = λ z. LineWritten z c.args.text.now c.write-order.result c.write-order.new.text in
-    record { line = subst L line c.write-order.ensures; verdict = judged sheet (λ i. omega (arith, c.type-inv.sheet i)) }
+    let line : ok_line (take (n - 0) c.find_order.new.order) ≡ sheet_line sheet = ap ok_line part ∙ ap (λ z. line_for z order) (sym none) in
+    let L : List ℕ → Type 0 = λ z. LineWritten z c.args.text.now c.write_order.result c.write_order.new.text in
+    record { line = subst L line c.write_order.ensures; verdict = judged sheet (λ i. omega (arith, c.type-inv.sheet i)) }
 
 pub returns-in-Err : goal.returns-in-Err
 returns-in-Err c =
     let sheet = c.args.sheet.now in
     let order = sheet_order sheet in
     let e = c.in-Err.refusal in
-    let found = c.find-order.ensures in
+    let found = c.find_order.ensures in
     let some : sheet_refusal sheet ≡ Some e = refused_with (sheet_refusal sheet) (length order) e (sym c.in-Err.is ∙ found.answer) in
-    let L : List ℕ → Type 0 = λ z. LineWritten z c.args.text.now c.write-refusal.result c.write-refusal.new.text in
+    let L : List ℕ → Type 0 = λ z. LineWritten z c.args.text.now c.write_refusal.result c.write_refusal.new.text in
     record {
-      line = subst L (ap (λ z. line_for z order) (sym some)) c.write-refusal.ensures;
+      line = subst L (ap (λ z. line_for z order) (sym some)) c.write_refusal.ensures;
       verdict = judged sheet (λ i. omega (arith, c.type-inv.sheet i));
     }

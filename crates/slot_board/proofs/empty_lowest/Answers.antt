@@ -3,13 +3,13 @@ use Rattle.slot_board.specs.Occurs.{occurs_absent, occurs_le_length}
 use Rattle.slot_board.proofs.Moves.{taken_slot, emptied_fit}
 use Rattle.slot_board.proofs.empty_lowest.Goals as goal
 
-pub returns-in-default : goal.returns-in-default
-returns-in-default c =
+pub returns-in_default : goal.returns-in_default
+returns-in_default c =
     let slots = c.args.slots.now in
     record {
       fit = c.requires.fit;
       few = omega (arith, occurs_le_length 0 slots, c.requires.fit.long);
-      cases = (occurs_absent (c.args.place + 1) slots c.in-default.ensures, refl);
+      cases = (occurs_absent (c.args.place + 1) slots c.in_default.ensures, refl);
     }
 
 pub returns : goal.returns

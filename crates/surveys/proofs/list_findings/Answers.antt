@@ -53,15 +53,15 @@ returns g c =
     let few = N.law.few_places in
     let all = findings N.net H x T in
     let o = survey_refusal N.net s tally T (length memory) in
-    let none : o ≡ None = sym (c.survey_refusal.ensures H (g.B.Board.spare b)) ∙ c.in-default.is in
-    let m = at c.all-counts-counts.result in
-    let counted : m ≡ H = fun_ext c.all-counts-counts.ensures.answer in
-    let word = c.cut-off-cut-off.result.word in
+    let none : o ≡ None = sym (c.survey_refusal.ensures H (g.B.Board.spare b)) ∙ c.in_default.is in
+    let m = at c.all_counts-counts.result in
+    let counted : m ≡ H = fun_ext c.all_counts-counts.ensures.answer in
+    let word = c.cut-off-cut_off.result.word in
     let first = finding_at (bytes_only (is_short N.net m x)) (short_finding N.net m x) in
     let second = finding_at (bytes_only (has word)) cut_off_finding in
     let third = finding_at (bytes_only (is_missed N.net m x T)) (missed_finding N.net m x T) in
     let cut : (p : ℕ) → p < P → bytes_only (has word) p ≡ is_cut_off N.net m x p =
-    λ p h. below_bytes (has word) P few p h ∙ c.cut-off-cut-off.ensures N.net m x N.law c.new.ensures p ∙ ap (λ z. z && is_cut_off N.net m x p) (lt-ltb p P h) in
+    λ p h. below_bytes (has word) P few p h ∙ c.cut-off-cut_off.ensures N.net m x N.law c.new.ensures p ∙ ap (λ z. z && is_cut_off N.net m x p) (lt-ltb p P h) in
     let groups : found_below first P ++ (found_below second P ++ found_below third P) ≡ all =
     ap (λ z. z ++ (found_below second P ++ found_below third P)) (found_by (is_short N.net m x) (bytes_only (is_short N.net m x)) (short_finding N.net m x) P (below_bytes (is_short N.net m x) P few))
     ∙ ap (λ z. found (is_short N.net m x) (short_finding N.net m x) P ++ (z ++ found_below third P)) (found_by (is_cut_off N.net m x) (bytes_only (has word)) cut_off_finding P cut)
@@ -70,14 +70,14 @@ returns g c =
     ∙ ap (λ z. findings N.net z x T) counted in
     let lent = c.new-findings.result.memory.now in
     let room : 192 ≤ length lent = omega (arith, (survey_fits N.net s tally T (length memory) none).memory_holds, ap length c.new-findings.ensures.memory) in
-    let l₁ = c.add-found.new.list in
-    let l₂ = c.add-found-2.new.list in
-    let l₃ = c.add-found-3.new.list in
+    let l₁ = c.add_found.new.list in
+    let l₂ = c.add_found-2.new.list in
+    let l₃ = c.add_found-3.new.list in
     let end = c.places-places.result in
     let W : ℕ → Type 0 = λ z. Written lent (found_below first z ++ (found_below second z ++ found_below third z)) l₃.memory.now l₃.len in
     let w = subst W c.places-places.ensures (three_groups first second third end lent (omega (arith, few, c.places-places.ensures)) room c.new-findings.result.len
-    c.add-found.result l₁.memory.now l₁.len c.add-found-2.result l₂.memory.now l₂.len c.add-found-3.result l₃.memory.now l₃.len
-    c.new-findings.ensures.empty c.add-found.ensures.adds c.add-found-2.ensures.adds c.add-found-3.ensures.adds) in
+    c.add_found.result l₁.memory.now l₁.len c.add_found-2.result l₂.memory.now l₂.len c.add_found-3.result l₃.memory.now l₃.len
+    c.new-findings.ensures.empty c.add_found.ensures.adds c.add_found-2.ensures.adds c.add_found-3.ensures.adds) in
     let front : l₃.memory.now ≡ written all memory = w.front ∙ ap (λ z. written z lent) groups ∙ ap (written all) c.new-findings.ensures.memory in
     let after : l₃.memory.now ≡ unless o memory (written all memory) = unless_accepted o memory (written all memory) l₃.memory.now none front in
     record {

@@ -7,6 +7,6 @@ returns c =
     record {
       answer = refl;
       finals = firing_keeps_final_numbers;
-      by-its-input = safe_by_its_input;
-      closed-set = closed_set_is_reached;
+      by_its_input = safe_by_its_input;
+      closed_set = closed_set_is_reached;
     }

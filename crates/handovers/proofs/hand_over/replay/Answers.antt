@@ -20,15 +20,15 @@ returns g c =
     let done = c.args.done.now in
     let marking = c.args.marking.now in
     let memory = c.args.memory in
-    let answer = said_of c.in-ok-answer.answer in
-    let tally = vec_items c.in-ok-tally.tally in
-    let numbers = vec_items c.in-ok-numbers.numbers in
+    let answer = said_of c.in_ok-answer.answer in
+    let tally = vec_items c.in_ok-tally.tally in
+    let numbers = vec_items c.in_ok-numbers.numbers in
     let call = resume tally (target_of numbers 0) memory in
     let M : g.row.N.Denot → Type 0 = λ n. Made (g.N.Net.meaning n).net (held (H z.board) (R z.board) z.done) call answer s' in
     let S : State → Type 0 = λ s. Made N.net s call answer s' in
     let new : held (H z.board) (R z.board) z.done ≡ new_on (H b) (R b) =
     ap (λ w. held (H w) (R w) z.done) c.new-sitting.ensures.board ∙ new_held (H b) (R b) z.done c.new-sitting.ensures.done in
-    let made = subst S new (subst M c.new-sitting.ensures.net c.in-ok-answer.ensures.performed) in
+    let made = subst S new (subst M c.new-sitting.ensures.net c.in_ok-answer.ensures.performed) in
     let tally_is : tally ≡ take c.steps.result done = search rules in
     let numbers_are : numbers ≡ take c.places.result marking = search rules in
     made_like resume N.net (new_on (H b) (R b)) tally (row_of (at done) N.net.steps) numbers (row_of (at marking) N.net.places) 0 0 memory memory answer s'

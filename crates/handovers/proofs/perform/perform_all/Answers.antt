@@ -21,9 +21,9 @@ loop-call-preserved g c =
     let inv = c.loop-call.invariant in
     let y = c.perform.new.sitting in
     let s' = held (H y.board) (R y.board) y.done in
-    let answer = c.in-ok-perform.field-0 in
+    let answer = c.in_ok-perform.field-0 in
     let M : g.row.N.Denot → Type 0 = λ n. Made (g.N.Net.meaning n).net s (call_of c.call-item.result) (said_of answer) s' in
-    let made = subst M inv.0 c.in-ok-perform.ensures.performed in
+    let made = subst M inv.0 c.in_ok-perform.ensures.performed in
     let more = all_made_more N s₀ (map call_of (take k calls)) said s (call_of c.call-item.result) (said_of answer) s' inv.1 made in
     let first : map call_of (take k calls) ++ (call_of c.call-item.result ∷ []) ≡ map call_of (take (k + 1) calls) =
     sym (map_push call_of (take k calls) c.call-item.result)
@@ -35,8 +35,8 @@ loop-call-preserved g c =
     let P : List Answer → Type 0 = λ w. AllMade N s₀ (map call_of (take (k + 1) calls)) w s' in
     (c.perform.ensures.net ∙ inv.0, subst P (sym (ap (map said_of) pushed ∙ map_push said_of (vec_items c.loop-call.said) answer)) all)
 
-pub returns-in-err-perform : goal.returns-in-err-perform
-returns-in-err-perform g c =
+pub returns-in_err-perform : goal.returns-in_err-perform
+returns-in_err-perform g c =
     let H = g.B.Board.counts in
     let R = g.B.Board.spare in
     let a = c.args.sitting.now in
@@ -53,11 +53,11 @@ returns-in-err-perform g c =
     record {
       net = c.perform.ensures.net ∙ inv.0;
       performed = cases_err c.from-residual.result (λ said. AllMade N s₀ (map call_of calls) (map said_of (vec_items said)) s') (SomeMade N s₀ (map call_of calls) s') c.from-residual.ensures.0
-          (some_made N s₀ call_of calls k said s s' (omega (arith, c.loop-call-test.true)) inv.1 c.in-err-perform.ensures.performed);
+          (some_made N s₀ call_of calls k said s s' (omega (arith, c.loop-call-test.true)) inv.1 c.in_err-perform.ensures.performed);
     }
 
-pub returns-in-err-push : goal.returns-in-err-push
-returns-in-err-push g c =
+pub returns-in_err-push : goal.returns-in_err-push
+returns-in_err-push g c =
     let H = g.B.Board.counts in
     let R = g.B.Board.spare in
     let a = c.args.sitting.now in
@@ -71,9 +71,9 @@ returns-in-err-push g c =
     let inv = c.loop-call.invariant in
     let y = c.perform.new.sitting in
     let s' = held (H y.board) (R y.board) y.done in
-    let answer = c.in-ok-perform.field-0 in
+    let answer = c.in_ok-perform.field-0 in
     let M : g.row.N.Denot → Type 0 = λ n. Made (g.N.Net.meaning n).net s (call_of c.call-item.result) (said_of answer) s' in
-    let made = subst M inv.0 c.in-ok-perform.ensures.performed in
+    let made = subst M inv.0 c.in_ok-perform.ensures.performed in
     let more = all_made_more N s₀ (map call_of (take k calls)) said s (call_of c.call-item.result) (said_of answer) s' inv.1 made in
     let first : map call_of (take k calls) ++ (call_of c.call-item.result ∷ []) ≡ map call_of (take (k + 1) calls) =
     sym (map_push call_of (take k calls) c.call-item.result)

@@ -12,20 +12,20 @@ returns-in-Ok g c =
     let a = c.args.sitting.now in
     let N = (g.N.Net.meaning a.net).net in
     let s = held (g.B.Board.counts a.board) (g.B.Board.spare a.board) a.done in
-    let tally = c.as-slice.result.now in
-    let numbers = c.target-of-target.result.numbers.now in
-    let kind = c.target-of-target.result.kind in
-    let memory = c.as-mut-slice.result.now in
-    let long : length memory ≡ q.memory = c.as-mut-slice.ensures.len ∙ c.in-ok-order.ensures.len in
+    let tally = c.as_slice.result.now in
+    let numbers = c.target_of-target.result.numbers.now in
+    let kind = c.target_of-target.result.kind in
+    let memory = c.as_mut_slice.result.now in
+    let long : length memory ≡ q.memory = c.as_mut_slice.ensures.len ∙ c.in_ok-order.ensures.len in
     let b' = c.resume.new.self.board in
     let s' = held (g.B.Board.counts b') (g.B.Board.spare b') c.resume.new.self.done in
     let written = c.resume.new.order in
     let kept : vec_items c.truncate.new.self ≡ take c.in-Ok.length written =
-    c.truncate.ensures.items ∙ ap (take c.in-Ok.length) (take_at written _ _ (c.resume.auto.order ∙ c.as-mut-slice.ensures.len)) in
+    c.truncate.ensures.items ∙ ap (take c.in-Ok.length) (take_at written _ _ (c.resume.auto.order ∙ c.as_mut_slice.ensures.len)) in
     record {
       net = c.resume.ensures.net;
       performed = made_like resume N s tally (vec_items q.tally) numbers (vec_items q.numbers) kind q.kind (length memory) q.memory (order_written (vec_items c.truncate.new.self)) s'
-          c.as-slice.ensures.value c.target-of-target.ensures.numbers c.target-of-target.ensures.kind long
+          c.as_slice.ensures.value c.target_of-target.ensures.numbers c.target_of-target.ensures.kind long
           (resume_made N s tally (target_of numbers kind) memory written (vec_items c.truncate.new.self) c.in-Ok.length s' (sym c.in-Ok.is ∙ c.resume.ensures.answer) c.resume.ensures.memory kept c.resume.ensures.after);
     }
 
@@ -35,16 +35,16 @@ returns-in-Err g c =
     let a = c.args.sitting.now in
     let N = (g.N.Net.meaning a.net).net in
     let s = held (g.B.Board.counts a.board) (g.B.Board.spare a.board) a.done in
-    let tally = c.as-slice.result.now in
-    let numbers = c.target-of-target.result.numbers.now in
-    let kind = c.target-of-target.result.kind in
-    let memory = c.as-mut-slice.result.now in
-    let long : length memory ≡ q.memory = c.as-mut-slice.ensures.len ∙ c.in-ok-order.ensures.len in
+    let tally = c.as_slice.result.now in
+    let numbers = c.target_of-target.result.numbers.now in
+    let kind = c.target_of-target.result.kind in
+    let memory = c.as_mut_slice.result.now in
+    let long : length memory ≡ q.memory = c.as_mut_slice.ensures.len ∙ c.in_ok-order.ensures.len in
     let b' = c.resume.new.self.board in
     let s' = held (g.B.Board.counts b') (g.B.Board.spare b') c.resume.new.self.done in
     record {
       net = c.resume.ensures.net;
       performed = made_like resume N s tally (vec_items q.tally) numbers (vec_items q.numbers) kind q.kind (length memory) q.memory (refused c.in-Err.refusal) s'
-          c.as-slice.ensures.value c.target-of-target.ensures.numbers c.target-of-target.ensures.kind long
+          c.as_slice.ensures.value c.target_of-target.ensures.numbers c.target_of-target.ensures.kind long
           (resume_not_made N s tally (target_of numbers kind) (length memory) c.in-Err.refusal s' (sym c.in-Err.is ∙ c.resume.ensures.answer) c.resume.ensures.after);
     }

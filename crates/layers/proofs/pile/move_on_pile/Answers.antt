@@ -15,8 +15,8 @@ returns g c =
     let lower = g.B.Board.counts low.below.below in
     let shown : (p : ℕ) → p < 64 → renamed pile.row (renamed low.row lower) p ≡ counts p =
     λ p h. same_names pile.row (renamed low.row lower) p c.new-pile.ensures.row h ∙ same_names low.row lower p (λ q l. ap (λ r. get_or r q 0) rows ∙ c.new-2.ensures.row q l) h ∙ ap (λ b. g.B.Board.counts b p) bottom in
-    let can = c.in-ok-move-block.ensures.answer in
-    let after = c.in-ok-move-block.ensures.counts to in
+    let can = c.in_ok-move_block.ensures.answer in
+    let after = c.in_ok-move_block.ensures.counts to in
     record {
       answer = (
         record { from_inside = can.from_inside; to_inside = can.to_inside; filled = omega (arith, can.filled, shown from (omega (arith, can.from_inside))) },

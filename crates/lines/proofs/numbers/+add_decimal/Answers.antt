@@ -11,23 +11,23 @@ returns t c =
     let n = c.args.number in
     let a = c.args.line.now in
     let l = c.if-number-ge10.line in
-    let m = c.add-byte.new.line in
+    let m = c.add_byte.new.line in
     let digit = (48 + n % 10) ∷ [] in
     elim c.if-number-ge10.branch [
       | then-number-ge10 w ↦
           let P : BoundedList ℕ → Type 0 = λ z. Appends (decimal (n / 10)) a.memory.now a.len z.memory.now z.len in
-          let first = subst P (sym w.line-is) w.add-decimal.ensures.appends in
+          let first = subst P (sym w.line-is) w.add_decimal.ensures.appends in
           record {
-            lender = c.add-byte.ensures.lender ∙ (ap (λ z. z.memory.ghost_name) w.line-is ∙ w.add-decimal.ensures.lender);
+            lender = c.add_byte.ensures.lender ∙ (ap (λ z. z.memory.ghost_name) w.line-is ∙ w.add_decimal.ensures.lender);
             appends = appends_like (decimal (n / 10) ++ digit) (decimal n) a.memory.now a.len m.memory.now m.len (sym (decimal_step n (omega arith) (omega arith)))
-                (appends_both (decimal (n / 10)) digit a.memory.now a.len l.memory.now l.len m.memory.now m.len first c.add-byte.ensures.appends);
+                (appends_both (decimal (n / 10)) digit a.memory.now a.len l.memory.now l.len m.memory.now m.len first c.add_byte.ensures.appends);
           }
       | else-number-ge10 w ↦
           let P : BoundedList ℕ → Type 0 = λ z. Appends digit z.memory.now z.len m.memory.now m.len in
           let same : n % 10 ≡ n = omega arith in
           record {
-            lender = c.add-byte.ensures.lender ∙ ap (λ z. z.memory.ghost_name) w.line-is;
+            lender = c.add_byte.ensures.lender ∙ ap (λ z. z.memory.ghost_name) w.line-is;
             appends = appends_like digit (decimal n) a.memory.now a.len m.memory.now m.len (ap (λ z. (48 + z) ∷ []) same ∙ sym (decimal_digit n (omega arith)))
-                (subst P w.line-is c.add-byte.ensures.appends);
+                (subst P w.line-is c.add_byte.ensures.appends);
           }
     ]

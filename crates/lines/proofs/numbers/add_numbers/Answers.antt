@@ -12,15 +12,15 @@ pub loop-number-preserved : goal.loop-number-preserved
 loop-number-preserved c =
     let a = c.args.line.now in
     let l = c.loop-number.line in
-    let k = c.add-byte.new.line in
-    let m = c.add-decimal.new.line in
+    let k = c.add_byte.new.line in
+    let m = c.add_decimal.new.line in
     let row = c.args.row.now in
     let i = c.loop-number.number-index in
     let n = get_or row i 0 in (
-      c.add-decimal.ensures.lender ∙ (c.add-byte.ensures.lender ∙ c.loop-number.invariant.0),
+      c.add_decimal.ensures.lender ∙ (c.add_byte.ensures.lender ∙ c.loop-number.invariant.0),
       appends_like (numbers (take i row) ++ (32 ∷ decimal n)) (numbers (take (i + 1) row)) a.memory.now a.len m.memory.now m.len (numbers_more row i c.loop-number-test.true)
           (appends_both (numbers (take i row)) (32 ∷ decimal n) a.memory.now a.len l.memory.now l.len m.memory.now m.len c.loop-number.invariant.1
-          (appends_both (32 ∷ []) (decimal n) l.memory.now l.len k.memory.now k.len m.memory.now m.len c.add-byte.ensures.appends c.add-decimal.ensures.appends)),
+          (appends_both (32 ∷ []) (decimal n) l.memory.now l.len k.memory.now k.len m.memory.now m.len c.add_byte.ensures.appends c.add_decimal.ensures.appends)),
     )
 
 pub returns : goal.returns

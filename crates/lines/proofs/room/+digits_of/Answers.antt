@@ -10,6 +10,6 @@ returns t c =
     let n = c.args.number in
     let more = more_digits n (omega arith) (omega arith) in
     record {
-      answer = ap (λ z. 1 + z) c.digits-of.ensures.answer ∙ sym more;
-      bound = omega (arith, c.digits-of.ensures.answer, more, few_digits n (omega arith));
+      answer = ap (λ z. 1 + z) c.digits_of.ensures.answer ∙ sym more;
+      bound = omega (arith, c.digits_of.ensures.answer, more, few_digits n (omega arith));
     }

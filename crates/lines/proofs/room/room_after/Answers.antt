@@ -8,11 +8,11 @@ pub returns-then-left-needed : goal.returns-then-left-needed
 returns-then-left-needed c =
     let row = c.args.row.now in
     let i = c.loop-number.number-index in
-    omega (arith, c.loop-number.invariant, c.digits-of-needed.ensures.answer, one_more_long row i c.loop-number-test.true, front_short row (i + 1))
+    omega (arith, c.loop-number.invariant, c.digits_of-needed.ensures.answer, one_more_long row i c.loop-number-test.true, front_short row (i + 1))
 
 pub loop-number-preserved : goal.loop-number-preserved
 loop-number-preserved c =
-    omega (arith, c.loop-number.invariant, c.digits-of-needed.ensures.answer, one_more_long c.args.row.now c.loop-number.number-index c.loop-number-test.true)
+    omega (arith, c.loop-number.invariant, c.digits_of-needed.ensures.answer, one_more_long c.args.row.now c.loop-number.number-index c.loop-number-test.true)
 
 pub returns : goal.returns
 returns c =

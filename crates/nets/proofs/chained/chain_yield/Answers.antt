@@ -10,20 +10,20 @@ loop-seen-preserved c =
     let seen = c.loop-seen.-seen in
     let less : A - seen - 1 ≡ A - (seen + 1) = omega arith in
     c.loop-seen.invariant
-    ∙ chain_next file (A - seen) c.loop-seen.arc c.args.place (omega (arith, c.loop-seen-test.true, c.arcs-seen-end.ensures)) (omega (arith, c.if-arc-eq0.false)) (λ e. c.if-place-of-place.false (c.place-of.ensures ∙ e))
+    ∙ chain_next file (A - seen) c.loop-seen.arc c.args.place (omega (arith, c.loop-seen-test.true, c.arcs-seen-end.ensures)) (omega (arith, c.if-arc-eq0.false)) (λ e. c.if-place_of-place.false (c.place_of.ensures ∙ e))
     ∙ ap (λ z. chain_yield file z (arc_next file c.loop-seen.arc) c.args.place) less
-    ∙ ap (λ z. chain_yield file (A - (seen + 1)) z c.args.place) (sym c.next-of-arc.ensures)
+    ∙ ap (λ z. chain_yield file (A - (seen + 1)) z c.args.place) (sym c.next_of-arc.ensures)
 
 pub returns-then-arc-eq0 : goal.returns-then-arc-eq0
 returns-then-arc-eq0 c =
     let file = c.args.file.now in
     sym (c.loop-seen.invariant ∙ chain_end file (chained_arcs file - c.loop-seen.-seen) c.loop-seen.arc c.args.place c.if-arc-eq0.true)
 
-pub returns-then-place-of-place : goal.returns-then-place-of-place
-returns-then-place-of-place c =
+pub returns-then-place_of-place : goal.returns-then-place_of-place
+returns-then-place_of-place c =
     let file = c.args.file.now in
-    let here = chain_here file (chained_arcs file - c.loop-seen.-seen) c.loop-seen.arc c.args.place (omega (arith, c.loop-seen-test.true, c.arcs-seen-end.ensures)) (omega (arith, c.if-arc-eq0.false)) (sym c.place-of.ensures ∙ c.if-place-of-place.true) in
-    c.weight-of.ensures ∙ sym (c.loop-seen.invariant ∙ here)
+    let here = chain_here file (chained_arcs file - c.loop-seen.-seen) c.loop-seen.arc c.args.place (omega (arith, c.loop-seen-test.true, c.arcs-seen-end.ensures)) (omega (arith, c.if-arc-eq0.false)) (sym c.place_of.ensures ∙ c.if-place_of-place.true) in
+    c.weight_of.ensures ∙ sym (c.loop-seen.invariant ∙ here)
 
 pub returns : goal.returns
 returns c =

@@ -12,7 +12,7 @@ use Rattle.schedules.specs.declared.schedule.Schedule.{Schedule}
 use Rattle.orders.proofs.Going.{Going, going_none, going_all}
 use Rattle.orders.proofs.Turns.{turn, none_cut_off, some_left}
 use Rattle.orders.proofs.first_order.fire_first_order.Goals as goal
-use Rattle.orders.proofs.first_order.fire_first_order.Goals.{in-Some, in-default}
+use Rattle.orders.proofs.first_order.fire_first_order.Goals.{in-Some, in_default}
 
 pub loop-init : goal.loop-init
 loop-init g c =
@@ -38,29 +38,29 @@ loop-preserved g c =
     let s = c.loop.schedule in
     let o = c.loop.order in
     let going = c.loop.invariant.1 in
-    let left : k < steps_asked N.net x₀ = omega (arith, c.loop-test.true, c.steps-asked-end.ensures.answer) in
+    let left : k < steps_asked N.net x₀ = omega (arith, c.loop-test.true, c.steps_asked-end.ensures.answer) in
     let room : k < length lent = omega (arith, c.requires.long, ap length c.new-order.ensures.memory) in
-    elim c.match-next-step.branch [
+    elim c.match-next_step.branch [
       | in-Some w ↦
           let t = w.in-Some.step in
-          let b' = w.move-blocks.new.board in
+          let b' = w.move_blocks.new.board in
           let s' = w.fire.new.self in
           let o' = w.add.new.self in
           let more = turn N.net N.law (H b₀) x₀ (R b₀) lent k s (H b) (R b) o.memory.now o.len going room (g.met.B.Board.bounded b) t
-          (λ x shows none. sym w.in-Some.is ∙ c.next-step.ensures N.net (H b) x N.law shows none)
-          w.move-blocks.result (H b') (R b') w.move-blocks.ensures.answer w.move-blocks.ensures.after
+          (λ x shows none. sym w.in-Some.is ∙ c.next_step.ensures N.net (H b) x N.law shows none)
+          w.move_blocks.result (H b') (R b') w.move_blocks.ensures.answer w.move_blocks.ensures.after
           s' (λ x shows ready fits. w.fire.ensures.fired (H b) x shows ready fits)
           w.add.result o'.memory.now o'.len w.add.ensures.adds in
           let P : g.row.B.Denot → Type 0 = λ z. Going N.net (H b₀) x₀ (R b₀) lent (k + 1) s' (H z) (R z) o'.memory.now o'.len in
-          let Q : Schedule → Type 0 = λ z. Going N.net (H b₀) x₀ (R b₀) lent (k + 1) z (H c.match-next-step.board) (R c.match-next-step.board) o'.memory.now o'.len in
-          let O : BoundedList ℕ → Type 0 = λ z. Going N.net (H b₀) x₀ (R b₀) lent (k + 1) c.match-next-step.schedule (H c.match-next-step.board) (R c.match-next-step.board) z.memory.now z.len in (
+          let Q : Schedule → Type 0 = λ z. Going N.net (H b₀) x₀ (R b₀) lent (k + 1) z (H c.match-next_step.board) (R c.match-next_step.board) o'.memory.now o'.len in
+          let O : BoundedList ℕ → Type 0 = λ z. Going N.net (H b₀) x₀ (R b₀) lent (k + 1) c.match-next_step.schedule (H c.match-next_step.board) (R c.match-next_step.board) z.memory.now z.len in (
             ap (λ z. z.memory.ghost_name) w.order-is ∙ (w.add.ensures.lender ∙ c.loop.invariant.0),
             subst O (sym w.order-is) (subst Q (sym w.schedule-is) (subst P (sym w.board-is) more)),
           )
-      | in-default w ↦
+      | in_default w ↦
           let x = going.tally in
           absurd (some_left N.net N.law (H b) x going.can (omega (arith, going.left))
-          (sym (c.next-step.ensures N.net (H b) x N.law going.shows (none_cut_off N.net N.law (H b) x going.can)) ∙ w.in-default.is))
+          (sym (c.next_step.ensures N.net (H b) x N.law going.shows (none_cut_off N.net N.law (H b) x going.can)) ∙ w.in_default.is))
     ]
 
 pub returns : goal.returns
@@ -75,7 +75,7 @@ returns g c =
     let b = c.loop.board in
     let o = c.loop.order in
     let going = c.loop.invariant.1 in
-    let end : k ≡ steps_asked N.net x₀ = omega (arith, c.loop-test.false, c.loop.auto.counter-end, c.steps-asked-end.ensures.answer) in
+    let end : k ≡ steps_asked N.net x₀ = omega (arith, c.loop-test.false, c.loop.auto.counter-end, c.steps_asked-end.ensures.answer) in
     let all = going_all N.net (H b₀) x₀ (R b₀) lent k c.loop.schedule (H b) (R b) o.memory.now o.len going end in
     let first = first_order N.net (H b₀) x₀ in
     let yields = yields_is N.net (H b₀) x₀ first (computed_is_first N.net N.law.inputs_inside (H b₀) x₀ c.requires.can).realizes in

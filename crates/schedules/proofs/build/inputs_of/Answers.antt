@@ -10,9 +10,9 @@ pub loop-step-preserved : goal.loop-step-preserved
 loop-step-preserved g c =
     let L : LawfulNet = g.N.Net.meaning c.args.net.now in
     let l : c.loop-step.step < length c.loop-step.inputs = omega arith in (
-      length-set c.loop-step.inputs c.loop-step.step c.unwrap-or.result ∙ c.loop-step.invariant.0,
-      row_more c.loop-step.inputs c.loop-step.step c.unwrap-or.result 0 (λ t v. v ≡ L.net.input t) l c.loop-step.invariant.1
-          (c.unwrap-or.ensures ∙ input_or_0 L c.loop-step.step c.input.result c.input.ensures),
+      length-set c.loop-step.inputs c.loop-step.step c.unwrap_or.result ∙ c.loop-step.invariant.0,
+      row_more c.loop-step.inputs c.loop-step.step c.unwrap_or.result 0 (λ t v. v ≡ L.net.input t) l c.loop-step.invariant.1
+          (c.unwrap_or.ensures ∙ input_or_0 L c.loop-step.step c.input.result c.input.ensures),
     )
 
 pub returns : goal.returns

@@ -12,9 +12,9 @@ pub loop-step-preserved : goal.loop-step-preserved
 loop-step-preserved g c =
     let L : LawfulNet = g.N.Net.meaning c.args.net.now in
     let l : c.loop-step.step < length c.loop-step.yields = omega arith in (
-      length-set c.loop-step.yields c.loop-step.step c.yields-at.result ∙ c.loop-step.invariant.0,
-      λ t p. row_more c.loop-step.yields c.loop-step.step c.yields-at.result (record { word = 0 })
-          (λ t v. has v.word p ≡ ltb 0 (L.net.yields t p)) l (λ k. c.loop-step.invariant.1 k p) (c.yields-at.ensures p) t,
+      length-set c.loop-step.yields c.loop-step.step c.yields_at.result ∙ c.loop-step.invariant.0,
+      λ t p. row_more c.loop-step.yields c.loop-step.step c.yields_at.result (record { word = 0 })
+          (λ t v. has v.word p ≡ ltb 0 (L.net.yields t p)) l (λ k. c.loop-step.invariant.1 k p) (c.yields_at.ensures p) t,
     )
 
 pub returns : goal.returns

@@ -11,7 +11,7 @@ loop-place-preserved c =
     let i = c.loop-place.place in
     let row = c.loop-place.row in (
       length-set row i _ ∙ c.loop-place.invariant.0,
-      filled_more row (fours c.args.sheet.now c.args.begin) i _ (omega (arith, c.loop-place.invariant.0, c.loop-place-test.true, c.requires.count)) c.four-at.ensures c.loop-place.invariant.1,
+      filled_more row (fours c.args.sheet.now c.args.begin) i _ (omega (arith, c.loop-place.invariant.0, c.loop-place-test.true, c.requires.count)) c.four_at.ensures c.loop-place.invariant.1,
     )
 
 pub returns : goal.returns

@@ -16,53 +16,53 @@ use Rattle.sheets.proofs.Forms.{same_form}
 use Rattle.sheets.proofs.Finding.{like, Resumed, head_kept, found_unfit, found_resumed}
 use Rattle.sheets.proofs.verdict.find_order.Goals as goal
 
-pub returns-in-err-load-net : goal.returns-in-err-load-net
-returns-in-err-load-net c =
+pub returns-in_err-load_net : goal.returns-in_err-load_net
+returns-in_err-load_net c =
     let sheet = c.args.sheet.now in
     let memory = c.args.order.now in
-    let e = c.in-err-load-net.field-0.0 in
+    let e = c.in_err-load_net.field-0.0 in
     let said : c.from-residual.result ≡ Err e = search rules in
-    let loaded : Err e ≡ answered (net_refusal sheet) tt = sym c.in-err-load-net.was ∙ c.load-net.ensures.answer in
+    let loaded : Err e ≡ answered (net_refusal sheet) tt = sym c.in_err-load_net.was ∙ c.load_net.ensures.answer in
     found_unfit sheet memory e c.from-residual.result said
     (same_form (net_refusal sheet) (Some e) (kind_unknown sheet) (kind_unknown sheet) (unlawful (start_of sheet)) (unlawful (start_of sheet)) (refused_with (net_refusal sheet) tt e loaded) refl refl)
 
-pub returns-then-byte-at-gt-AT-LEAST : goal.returns-then-byte-at-gt-AT-LEAST
-returns-then-byte-at-gt-AT-LEAST c =
+pub returns-then-byte_at-gt-AT_LEAST : goal.returns-then-byte_at-gt-AT_LEAST
+returns-then-byte_at-gt-AT_LEAST c =
     let sheet = c.args.sheet.now in
     let memory = c.args.order.now in
-    let loaded : Ok tt ≡ answered (net_refusal sheet) tt = sym c.in-ok-load-net.was ∙ c.load-net.ensures.answer in
+    let loaded : Ok tt ≡ answered (net_refusal sheet) tt = sym c.in_ok-load_net.was ∙ c.load_net.ensures.answer in
     let net : net_refusal sheet ≡ None = accepted_with (net_refusal sheet) tt tt loaded in
     let kind : kind_unknown sheet ≡ true =
-    ap not (le-ltb (kind_of sheet) 2 (omega (arith, c.if-byte-at-gt-AT-LEAST.true, c.byte-at.ensures, ap (byte sheet) c.parts-of-parts.ensures.kind))) in
+    ap not (le-ltb (kind_of sheet) 2 (omega (arith, c.if-byte_at-gt-AT_LEAST.true, c.byte_at.ensures, ap (byte sheet) c.parts_of-parts.ensures.kind))) in
     found_unfit sheet memory RowsUnfit (Err RowsUnfit) refl
     (same_form (net_refusal sheet) None (kind_unknown sheet) true (unlawful (start_of sheet)) (unlawful (start_of sheet)) net kind refl)
 
-pub returns-in-err-board : goal.returns-in-err-board
-returns-in-err-board c =
+pub returns-in_err-board : goal.returns-in_err-board
+returns-in_err-board c =
     let sheet = c.args.sheet.now in
     let memory = c.args.order.now in
-    let loaded : Ok tt ≡ answered (net_refusal sheet) tt = sym c.in-ok-load-net.was ∙ c.load-net.ensures.answer in
+    let loaded : Ok tt ≡ answered (net_refusal sheet) tt = sym c.in_ok-load_net.was ∙ c.load_net.ensures.answer in
     let net : net_refusal sheet ≡ None = accepted_with (net_refusal sheet) tt tt loaded in
-    let file = c.load-net.ensures.after c.in-ok-load-net.was in
+    let file = c.load_net.ensures.after c.in_ok-load_net.was in
     let kind : kind_unknown sheet ≡ false =
-    ap not (lt-ltb (kind_of sheet) 2 (omega (arith, c.if-byte-at-gt-AT-LEAST.false, c.byte-at.ensures, ap (byte sheet) c.parts-of-parts.ensures.kind))) in
+    ap not (lt-ltb (kind_of sheet) 2 (omega (arith, c.if-byte_at-gt-AT_LEAST.false, c.byte_at.ensures, ap (byte sheet) c.parts_of-parts.ensures.kind))) in
     let places : c.places.result ≡ chained_places sheet = c.places.ensures ∙ ap chained_places file ∙ head_kept sheet 0 (omega arith) in
-    let starts : at c.read-fours-starts.result ≡ start_of sheet =
-    fun_ext c.read-fours-starts.ensures.numbers
-    ∙ ap (λ n. below n (fours sheet c.parts-of-parts.result.starts)) places
-    ∙ ap (λ n. below (chained_places sheet) (fours sheet n)) c.parts-of-parts.ensures.starts in
-    let e = c.in-err-board.field-0.0 in
+    let starts : at c.read_fours-starts.result ≡ start_of sheet =
+    fun_ext c.read_fours-starts.ensures.numbers
+    ∙ ap (λ n. below n (fours sheet c.parts_of-parts.result.starts)) places
+    ∙ ap (λ n. below (chained_places sheet) (fours sheet n)) c.parts_of-parts.ensures.starts in
+    let e = c.in_err-board.field-0.0 in
     let said : c.from-residual-in-err-board.result ≡ Err e = search rules in
-    let broken = c.in-err-board.ensures in
+    let broken = c.in_err-board.ensures in
     found_unfit sheet memory BoardRowUnfit c.from-residual-in-err-board.result (said ∙ ap Err broken.1)
     (same_form (net_refusal sheet) None (kind_unknown sheet) false (unlawful (start_of sheet)) true net kind (sym (ap unlawful starts) ∙ broken.0))
 
-pub resume-sheet-requires : goal.resume-sheet-requires
-resume-sheet-requires c =
+pub resume_sheet-requires : goal.resume_sheet-requires
+resume_sheet-requires c =
     let sheet = c.args.sheet.now in
-    let file = c.load-net.ensures.after c.in-ok-load-net.was in
+    let file = c.load_net.ensures.after c.in_ok-load_net.was in
     record {
-      parts = c.parts-of-parts.ensures;
+      parts = c.parts_of-parts.ensures;
       places = ap chained_places file ∙ head_kept sheet 0 (omega arith);
       steps = ap chained_steps file ∙ head_kept sheet 1 (omega arith);
     }
@@ -71,26 +71,26 @@ pub returns : goal.returns
 returns c =
     let sheet = c.args.sheet.now in
     let memory = c.args.order.now in
-    let loaded : Ok tt ≡ answered (net_refusal sheet) tt = sym c.in-ok-load-net.was ∙ c.load-net.ensures.answer in
+    let loaded : Ok tt ≡ answered (net_refusal sheet) tt = sym c.in_ok-load_net.was ∙ c.load_net.ensures.answer in
     let net : net_refusal sheet ≡ None = accepted_with (net_refusal sheet) tt tt loaded in
-    let file = c.load-net.ensures.after c.in-ok-load-net.was in
+    let file = c.load_net.ensures.after c.in_ok-load_net.was in
     let kind : kind_unknown sheet ≡ false =
-    ap not (lt-ltb (kind_of sheet) 2 (omega (arith, c.if-byte-at-gt-AT-LEAST.false, c.byte-at.ensures, ap (byte sheet) c.parts-of-parts.ensures.kind))) in
+    ap not (lt-ltb (kind_of sheet) 2 (omega (arith, c.if-byte_at-gt-AT_LEAST.false, c.byte_at.ensures, ap (byte sheet) c.parts_of-parts.ensures.kind))) in
     let places : c.places.result ≡ chained_places sheet = c.places.ensures ∙ ap chained_places file ∙ head_kept sheet 0 (omega arith) in
-    let starts : at c.read-fours-starts.result ≡ start_of sheet =
-    fun_ext c.read-fours-starts.ensures.numbers
-    ∙ ap (λ n. below n (fours sheet c.parts-of-parts.result.starts)) places
-    ∙ ap (λ n. below (chained_places sheet) (fours sheet n)) c.parts-of-parts.ensures.starts in
-    let pile = c.in-ok-board.board in
-    let fits = c.in-ok-board.ensures in
+    let starts : at c.read_fours-starts.result ≡ start_of sheet =
+    fun_ext c.read_fours-starts.ensures.numbers
+    ∙ ap (λ n. below n (fours sheet c.parts_of-parts.result.starts)) places
+    ∙ ap (λ n. below (chained_places sheet) (fours sheet n)) c.parts_of-parts.ensures.starts in
+    let pile = c.in_ok-board.board in
+    let fits = c.in_ok-board.ensures in
     let counts = renamed pile.row (at_place pile.below.below.counts) in
     let spare = min pile.below.left pile.below.below.spare in
-    let r = c.resume-sheet.result in
-    let memory' = c.resume-sheet.new.order in
+    let r = c.resume_sheet.result in
+    let memory' = c.resume_sheet.new.order in
     let form = same_form (net_refusal sheet) None (kind_unknown sheet) false (unlawful (start_of sheet)) false net kind (sym (ap unlawful starts) ∙ fits.0) in
     let board : new_on counts spare ≡ sitting_of sheet = ap (λ z. new_on z spare) (fits.1 ∙ starts) ∙ ap (new_on (start_of sheet)) fits.2 in
-    let N = chained_net c.load-net.new.net.file.now in
+    let N = chained_net c.load_net.new.net.file.now in
     let resumed : Resumed r memory memory' N (new_on counts spare) (tally_of sheet) (target_in sheet) =
-    record { answer = c.resume-sheet.ensures.answer; order = c.resume-sheet.ensures.memory } in
-    found_resumed sheet memory r memory' c.requires form c.resume-sheet.ensures.fits
+    record { answer = c.resume_sheet.ensures.answer; order = c.resume_sheet.ensures.memory } in
+    found_resumed sheet memory r memory' c.requires form c.resume_sheet.ensures.fits
     (like (Resumed r memory memory') N (net_of sheet) (new_on counts spare) (sitting_of sheet) (tally_of sheet) (tally_of sheet) (target_in sheet) (target_in sheet) (ap chained_net file) board refl refl resumed)

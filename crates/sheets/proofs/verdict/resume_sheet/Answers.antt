@@ -27,9 +27,9 @@ returns g c =
     let memory' = c.resume.new.order in
     let places = c.places-places.result in
     let steps = c.steps-steps.result in
-    let tally-row = c.read-twos-tally.result in
-    let numbers-row = c.read-fours-numbers.result in
-    let T = target_of (take (places - 0) numbers-row) c.byte-at.result in
+    let tally-row = c.read_twos-tally.result in
+    let numbers-row = c.read_fours-numbers.result in
+    let T = target_of (take (places - 0) numbers-row) c.byte_at.result in
     let answer : c.resume.result ≡ resume_answer (g.N.Net.meaning z.net).net (held (H z.board) (R z.board) z.done) (take (steps - 0) tally-row) T (length memory) = c.resume.ensures.answer in
     let order : memory' ≡ order_memory (g.N.Net.meaning z.net).net (held (H z.board) (R z.board) z.done) (take (steps - 0) tally-row) T memory = c.resume.ensures.memory in
     let resumed : Resumed c.resume.result memory memory' (g.N.Net.meaning z.net).net (held (H z.board) (R z.board) z.done) (take (steps - 0) tally-row) T =
@@ -39,16 +39,16 @@ returns g c =
     ∙ ap (λ (d : ℕ → ℕ). record { counts = H b; spare = R b; done = d }) (fun_ext c.new-sitting.ensures.done) in
     let tally : take (steps - 0) tally-row ≡ tally_of sheet =
     ap (λ n. take n tally-row) (sub_zero steps)
-    ∙ filled_front tally-row (twos sheet parts.tallies) steps (omega (arith, c.read-twos-tally.ensures.long, c.steps-steps.ensures, N.law.few_steps)) c.read-twos-tally.ensures.numbers
+    ∙ filled_front tally-row (twos sheet parts.tallies) steps (omega (arith, c.read_twos-tally.ensures.long, c.steps-steps.ensures, N.law.few_steps)) c.read_twos-tally.ensures.numbers
     ∙ ap (λ w. row_of (twos sheet w) steps) c.requires.parts.tallies
     ∙ ap (row_of (twos sheet (tallies_begin sheet))) (c.steps-steps.ensures ∙ c.requires.steps) in
     let numbers : take (places - 0) numbers-row ≡ row_of (fours sheet (targets_begin sheet)) (chained_places sheet) =
     ap (λ n. take n numbers-row) (sub_zero places)
-    ∙ filled_front numbers-row (fours sheet parts.targets) places (omega (arith, c.read-fours-numbers.ensures.long, c.places-places.ensures, N.law.few_places)) c.read-fours-numbers.ensures.numbers
+    ∙ filled_front numbers-row (fours sheet parts.targets) places (omega (arith, c.read_fours-numbers.ensures.long, c.places-places.ensures, N.law.few_places)) c.read_fours-numbers.ensures.numbers
     ∙ ap (λ w. row_of (fours sheet w) places) c.requires.parts.targets
     ∙ ap (row_of (fours sheet (targets_begin sheet))) (c.places-places.ensures ∙ c.requires.places) in
-    let kind : c.byte-at.result ≡ kind_of sheet = c.byte-at.ensures ∙ ap (byte sheet) c.requires.parts.kind in
-    let target : T ≡ target_in sheet = ap (λ w. target_of w c.byte-at.result) numbers ∙ ap (target_of (row_of (fours sheet (targets_begin sheet)) (chained_places sheet))) kind in
+    let kind : c.byte_at.result ≡ kind_of sheet = c.byte_at.ensures ∙ ap (byte sheet) c.requires.parts.kind in
+    let target : T ≡ target_in sheet = ap (λ w. target_of w c.byte_at.result) numbers ∙ ap (target_of (row_of (fours sheet (targets_begin sheet)) (chained_places sheet))) kind in
     let said = like (Resumed c.resume.result memory memory') (g.N.Net.meaning z.net).net N.net (held (H z.board) (R z.board) z.done) (new_on (H b) (R b)) (take (steps - 0) tally-row) (tally_of sheet) T (target_in sheet)
     (ap (λ n. (g.N.Net.meaning n).net) c.new-sitting.ensures.net) state tally target resumed in
     record {

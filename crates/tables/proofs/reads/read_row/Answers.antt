@@ -18,9 +18,9 @@ loop-place-preserved g c =
     let N = g.N.Net.meaning c.args.net.now in
     let l = c.loop-place in
     let here : ℕ = cell c.args.step l.place in (
-      row_more (N.net.yields c.args.step) l.yields c.args.step l.place c.yield-at.result
-          (omega (arith, N.law.few_places)) c.yield-at.ensures l.invariant.0,
+      row_more (N.net.yields c.args.step) l.yields c.args.step l.place c.yield_at.result
+          (omega (arith, N.law.few_places)) c.yield_at.ensures l.invariant.0,
       λ i h.
           let other : i ≢ here = omega arith in
-          get_or-set_other l.yields here i c.yield-at.result 0 other ∙ l.invariant.1 i h,
+          get_or-set_other l.yields here i c.yield_at.result 0 other ∙ l.invariant.1 i h,
     )

@@ -10,8 +10,8 @@ loop-step-preserved g c =
     let l = c.loop-step in
     λ t p h k.
     elim (cases_lt t l.step) [
-      | inl before ↦ c.read-row.ensures.same (cell t p) (omega (arith, N.law.few_places)) ∙ l.invariant t p before k
+      | inl before ↦ c.read_row.ensures.same (cell t p) (omega (arith, N.law.few_places)) ∙ l.invariant t p before k
       | inr last ↦
           let now_read : l.step ≡ t = omega arith in
-          subst (λ (u : ℕ). at c.read-row.new.yields (cell u p) ≡ N.net.yields u p) now_read (c.read-row.ensures.row p k)
+          subst (λ (u : ℕ). at c.read_row.new.yields (cell u p) ≡ N.net.yields u p) now_read (c.read_row.ensures.row p k)
     ]

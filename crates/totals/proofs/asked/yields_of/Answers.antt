@@ -5,15 +5,15 @@ use Rattle.totals.proofs.Bounds.{yields_few}
 use Rattle.totals.proofs.asked.yields_of.Given as given
 use Rattle.totals.proofs.asked.yields_of.Goals as goal
 
-total : (g : given.Over) (c : goal.After-sum-below g) →
-    c.sum-below.result ≡ yields_of (g.N.Net.meaning c.args.net.now).net c.args.step
+total : (g : given.Over) (c : goal.After-sum_below g) →
+    c.sum_below.result ≡ yields_of (g.N.Net.meaning c.args.net.now).net c.args.step
 total g c =
     let N = (g.N.Net.meaning c.args.net.now).net in
-    let sum : c.sum-below.result ≡ sum_to (N.yields c.args.step) c.places.result = c.sum-below.ensures.answer in
+    let sum : c.sum_below.result ≡ sum_to (N.yields c.args.step) c.places.result = c.sum_below.ensures.answer in
     sum ∙ ap (sum_to (N.yields c.args.step)) c.places.ensures
 
-pub overflow-cast-result : goal.overflow-cast-result
-overflow-cast-result g c =
+pub overflow_cast-result : goal.overflow_cast-result
+overflow_cast-result g c =
     let N = g.N.Net.meaning c.args.net.now in
     omega (arith, total g c, yields_few N.net N.law c.args.step)
 

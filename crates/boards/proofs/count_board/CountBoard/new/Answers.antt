@@ -2,5 +2,5 @@ use Rattle.std.proofs.Common.{refl, arith}
 use Rattle.boards.proofs.RowSums.{zeros_sum}
 use Rattle.boards.proofs.count_board.CountBoard.new.Goals as goal
 
-pub invariant-of-result : goal.invariant-of-result
-invariant-of-result c = (refl, (omega (arith, zeros_sum 64), tt))
+pub invariant_of-result : goal.invariant_of-result
+invariant_of-result c = (refl, (omega (arith, zeros_sum 64), tt))

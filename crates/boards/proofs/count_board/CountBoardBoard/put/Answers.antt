@@ -2,12 +2,12 @@ use Rattle.std.proofs.Common.{◌∙◌, arith, length-set}
 use Rattle.boards.proofs.RowSums.{law_after, row_at}
 use Rattle.boards.proofs.count_board.CountBoardBoard.put.Goals as goal
 
-pub overflow-add-self : goal.overflow-add-self
-overflow-add-self c =
+pub overflow_add-self : goal.overflow_add-self
+overflow_add-self c =
     let b = c.args.self.now in
     omega (arith, b.lawful, row_at b.counts c.args.place (omega arith))
 
-pub invariant-of-self : goal.invariant-of-self
-invariant-of-self c =
+pub invariant_of-self : goal.invariant_of-self
+invariant_of-self c =
     let b = c.args.self.now in
     (length-set b.counts _ _ ∙ b.long, (law_after b.counts _ _ b.spare _ b.long (omega arith) (omega arith) b.lawful, tt))

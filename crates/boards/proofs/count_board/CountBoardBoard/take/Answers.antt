@@ -2,7 +2,7 @@ use Rattle.std.proofs.Common.{◌∙◌, arith, length-set}
 use Rattle.boards.proofs.RowSums.{law_after}
 use Rattle.boards.proofs.count_board.CountBoardBoard.take.Goals as goal
 
-pub invariant-of-self : goal.invariant-of-self
-invariant-of-self c =
+pub invariant_of-self : goal.invariant_of-self
+invariant_of-self c =
     let b = c.args.self.now in
     (length-set b.counts _ _ ∙ b.long, (law_after b.counts _ _ b.spare _ b.long (omega arith) (omega arith) b.lawful, tt))

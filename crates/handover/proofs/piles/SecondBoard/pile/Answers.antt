@@ -14,8 +14,8 @@ renamed_empty row counts empty p h = cond-true (ltb p 64) (counts (get_or row p 
 
 pub returns : goal.returns
 returns c p h =
-    let pile = c.load-names.new.pile in
-    let below = c.load-names.ensures ∙ c.new-pile.ensures.below in
+    let pile = c.load_names.new.pile in
+    let below = c.load_names.ensures ∙ c.new-pile.ensures.below in
     let empty : (q : ℕ) → at_place pile.below.below.counts q ≡ 0 =
-    λ q. ap (λ a. at_place a.below.counts q) below ∙ ap (λ b. at_place b.counts q) c.new.ensures.below ∙ c.in-ok-load.ensures.answer.counts_given q ∙ zeros q in
-    omega (arith, c.in-ok-lay-out.ensures p h, renamed_empty pile.row (at_place pile.below.below.counts) empty p h)
+    λ q. ap (λ a. at_place a.below.counts q) below ∙ ap (λ b. at_place b.counts q) c.new.ensures.below ∙ c.in_ok-load.ensures.answer.counts_given q ∙ zeros q in
+    omega (arith, c.in_ok-lay_out.ensures p h, renamed_empty pile.row (at_place pile.below.below.counts) empty p h)

@@ -14,11 +14,11 @@ returns-then-place-lt-PLACES c N m x law h ready =
     let t : ℕ = c.args.step in
     let l : t < N.steps = ready.a_step in
     let k : 0 < x t = ready.left in
-    let row : c.put-at.new.row ≡ set s.left t (at s.left t - 1) =
-    c.put-at.ensures ∙ ap (set s.left t) (c.saturating-sub.ensures ∙ ap (λ (v : ℕ). v - 1) c.at-or-left.ensures) in
+    let row : c.put_at.new.row ≡ set s.left t (at s.left t - 1) =
+    c.put_at.ensures ∙ ap (set s.left t) (c.saturating_sub.ensures ∙ ap (λ (v : ℕ). v - 1) c.at_or-left.ensures) in
     shows_last_gone N law m x s h t l k c.rebuild.new.self
     (subst (λ (r : List ℕ). Rebuilt (with_left s r) (N.input t) c.rebuild.new.self) row
-    (subst (λ (p : ℕ). Rebuilt (with_left s c.put-at.new.row) p c.rebuild.new.self) (c.input-place.ensures.shown N m x h)
+    (subst (λ (p : ℕ). Rebuilt (with_left s c.put_at.new.row) p c.rebuild.new.self) (c.input-place.ensures.shown N m x h)
     c.rebuild.ensures))
 
 pub returns-else-left-eq1 : goal.returns-else-left-eq1
@@ -27,14 +27,14 @@ returns-else-left-eq1 c N m x law h ready =
     let t : ℕ = c.args.step in
     let l : t < N.steps = ready.a_step in
     let k : 0 < x t = ready.left in
-    let row : c.put-at.new.row ≡ set s.left t (at s.left t - 1) =
-    c.put-at.ensures ∙ ap (set s.left t) (c.saturating-sub.ensures ∙ ap (λ (v : ℕ). v - 1) c.at-or-left.ensures) in
+    let row : c.put_at.new.row ≡ set s.left t (at s.left t - 1) =
+    c.put_at.ensures ∙ ap (set s.left t) (c.saturating_sub.ensures ∙ ap (λ (v : ℕ). v - 1) c.at_or-left.ensures) in
     let two : 1 < x t =
     elim c.else-left-eq1.either [
       | inl e ↦ absurd (omega (arith, e.1, c.input-place.ensures.shown N m x h, law.inputs_inside t l, law.few_places))
       | inr d ↦
           elim (cases_eq (x t) 1) [
-            | inl e ↦ absurd (d (c.at-or-left.ensures ∙ h.left t l ∙ e))
+            | inl e ↦ absurd (d (c.at_or-left.ensures ∙ h.left t l ∙ e))
             | inr n ↦ omega arith
           ]
     ] in

@@ -13,17 +13,17 @@ returns g c m x h l i b =
     let L : LawfulNet = g.N.Net.meaning c.args.net.now in
     let s : Schedule = c.args.self.now in
     let t : ℕ = c.args.step in
-    let long : 64 ≤ length c.put-at.new.row = omega arith in
+    let long : 64 ≤ length c.put_at.new.row = omega arith in
     let there : c.input-place.result ≡ at s.inputs t = c.input-place.ensures.table in
-    let count : c.at-or-count.result ≡ at s.held (at s.inputs t) = c.at-or-count.ensures ∙ ap (at s.held) there in
-    let row : c.put-at.new.row ≡ set s.held (at s.inputs t) (at s.held (at s.inputs t) - 1) =
-    c.put-at.ensures
-    ∙ ap (λ (p : ℕ). set s.held p c.saturating-sub.result) there
-    ∙ ap (set s.held (at s.inputs t)) (c.saturating-sub.ensures ∙ ap (λ (v : ℕ). v - 1) count) in
+    let count : c.at_or-count.result ≡ at s.held (at s.inputs t) = c.at_or-count.ensures ∙ ap (at s.held) there in
+    let row : c.put_at.new.row ≡ set s.held (at s.inputs t) (at s.held (at s.inputs t) - 1) =
+    c.put_at.ensures
+    ∙ ap (λ (p : ℕ). set s.held p c.saturating_sub.result) there
+    ∙ ap (set s.held (at s.inputs t)) (c.saturating_sub.ensures ∙ ap (λ (v : ℕ). v - 1) count) in
     shows_fired L.net L.law m x s h t l i _ refl refl refl refl refl refl b (has c.yields-yields.result.word) c.yields-yields.ensures.table
     (λ q k.
-    subst (λ (r : List ℕ). at c.add-yields.new.held q ≡ cond (has c.yields-yields.result.word q) (min (at r q + L.net.yields t q) (2 ^ 32 - 1)) (at r q)) row
-    (c.add-yields.ensures q (omega (arith, L.law.few_places))))
+    subst (λ (r : List ℕ). at c.add_yields.new.held q ≡ cond (has c.yields-yields.result.word q) (min (at r q + L.net.yields t q) (2 ^ 32 - 1)) (at r q)) row
+    (c.add_yields.ensures q (omega (arith, L.law.few_places))))
     (has c.if-count-eq1.others.word)
     (λ q e. elim c.if-count-eq1.branch [
       | then-count-eq1 w ↦

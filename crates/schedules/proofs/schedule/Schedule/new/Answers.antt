@@ -7,13 +7,13 @@ use Rattle.schedules.proofs.schedule.Schedule.new.Goals as goal
 pub returns : goal.returns
 returns g c =
     let L : LawfulNet = g.N.Net.meaning c.args.net.now in
-    shows_new L.net L.law (at c.args.counts.now) (at c.args.tally.now) _ c.rebuild-all.new.self
+    shows_new L.net L.law (at c.args.counts.now) (at c.args.tally.now) _ c.rebuild_all.new.self
     (record {
       steps = c.steps.ensures;
       left = λ t l. c.front-2.ensures t (omega (arith, L.law.few_steps));
-      inputs = c.inputs-of.ensures;
+      inputs = c.inputs_of.ensures;
       yields = c.yields_of.ensures;
     })
     c.front.ensures
-    (λ p. c.marked-in.ensures p ∙ ap (λ (v : ℕ). ltb p v && ltb 0 (at c.args.counts.now p)) c.places.ensures)
-    c.rebuild-all.ensures
+    (λ p. c.marked_in.ensures p ∙ ap (λ (v : ℕ). ltb p v && ltb 0 (at c.args.counts.now p)) c.places.ensures)
+    c.rebuild_all.ensures

@@ -23,4 +23,4 @@ loop-place-preserved c = (
 pub returns : goal.returns
 returns c =
     search_ends (has_at c.args.self.now.leads) (has c.args.first.word) (has c.loop-place.seen.word) (has c.loop-place.done.word)
-    c.loop-place.invariant.0 (λ p. sym (c.minus.ensures p) ∙ c.in-default.ensures.cases p)
+    c.loop-place.invariant.0 (λ p. sym (c.minus.ensures p) ∙ c.in_default.ensures.cases p)

@@ -12,11 +12,11 @@ loop-step-init c = (omega arith, λ _. refl)
 pub loop-step-preserved : goal.loop-step-preserved
 loop-step-preserved c = elim c.if-takes.branch [
   | then-takes w ↦ (
-    omega (arith, w.takers-is, w.saturating-add-takers.ensures),
+    omega (arith, w.takers-is, w.saturating_add-takers.ensures),
     λ few.
         let h = count_more (takes_in c.args.self.now c.args.place) c.loop-step.step c.loop-step.takers true
         (c.loop-step.invariant.1 few) (sym w.if-takes.true ∙ c.takes.ensures) in
-        (omega (arith, w.takers-is, w.saturating-add-takers.ensures)) ∙ h,
+        (omega (arith, w.takers-is, w.saturating_add-takers.ensures)) ∙ h,
   )
   | else-takes w ↦ (
     omega (arith, w.takers-is),

@@ -8,7 +8,7 @@ use Rattle.schedules.proofs.schedule.Schedule.yields.Goals as goal
 
 pub returns : goal.returns
 returns c =
-    let read : (p : ℕ) → has c.at-or.result.word p ≡ has_at c.args.self.now.yields c.args.step p =
-    λ p. ap (λ (v : PlaceSet). has v.word p) c.at-or.ensures
+    let read : (p : ℕ) → has c.at_or.result.word p ≡ has_at c.args.self.now.yields c.args.step p =
+    λ p. ap (λ (v : PlaceSet). has v.word p) c.at_or.ensures
     ∙ has_past c.args.self.now.yields c.args.step c.empty.result (record { word = 0 }) p (c.empty.ensures.answer p) (has_none p) in
     record { table = read; shown = λ N m x s p. read p ∙ s.yields c.args.step p }

@@ -4,15 +4,15 @@ use Rattle.theory.proofs.SumLaws.{le_sum_to}
 use Rattle.sittings.proofs.DoneRows.{one_more_total}
 use Rattle.sittings.proofs.sitting.Sitting.fire.Goals as goal
 
-pub overflow-add-self : goal.overflow-add-self
-overflow-add-self g c =
+pub overflow_add-self : goal.overflow_add-self
+overflow_add-self g c =
     let s = c.args.self.now in
     let N = g.N.Net.meaning s.net in
     let inside : c.args.step < 128 = omega (arith, N.law.few_steps, c.in-Some.ensures.0) in
     omega (arith, c.done_total.ensures.answer, le_sum_to (at s.done) 128 c.args.step inside)
 
-pub invariant-of-self : goal.invariant-of-self
-invariant-of-self g c =
+pub invariant_of-self : goal.invariant_of-self
+invariant_of-self g c =
     let s = c.args.self.now in
     let N = g.N.Net.meaning s.net in
     let inside : c.args.step < 128 = omega (arith, N.law.few_steps, c.in-Some.ensures.0) in

@@ -8,8 +8,8 @@ use Rattle.sittings.proofs.sitting.Sitting.new.Goals as goal
 zeros : (t : ℕ) → at (replicate 128 0) t ≡ 0
 zeros t = ⊎_elim (λ h. get_or-replicate 128 t 0 0 h) (λ h. get_or_past (replicate 128 0) t 0 h) (cases_lt t 128)
 
-pub invariant-of-result : goal.invariant-of-result
-invariant-of-result g c = (refl, (omega (arith, sum_to_none (at (replicate 128 0)) 128 (λ t _. zeros t)), tt))
+pub invariant_of-result : goal.invariant_of-result
+invariant_of-result g c = (refl, (omega (arith, sum_to_none (at (replicate 128 0)) 128 (λ t _. zeros t)), tt))
 
 pub returns : goal.returns
 returns g c = record { net = refl; board = refl; done = zeros }

@@ -11,8 +11,8 @@ use Rattle.sittings.proofs.DoneRows.{counts_fit, added_total}
 use Rattle.sittings.proofs.Resumed.{accepted_with, refused_resume, accepted_resume}
 use Rattle.sittings.proofs.sitting.Sitting.resume.Goals as goal
 
-pub returns-in-err-length : goal.returns-in-err-length
-returns-in-err-length g c =
+pub returns-in_err-length : goal.returns-in_err-length
+returns-in_err-length g c =
     let a = c.args.self.now in
     let N = g.N.Net.meaning a.net in
     let t = c.read-table.result in
@@ -22,13 +22,13 @@ returns-in-err-length g c =
     let tally = c.args.tally.now in
     let T = target_of c.args.target.numbers.now c.args.target.kind in
     let memory = c.args.order.now in
-    let b' = c.fire-tally.new.board in
-    let memory' = c.fire-tally.new.memory in
-    let F : NetMeaning → Type 0 = λ M. Fired M s tally T memory c.fire-tally.result (H b') (R b') memory' in
-    let fired = subst F c.read-table.ensures c.fire-tally.ensures in
-    let e = c.in-err-length.field-0.0 in
+    let b' = c.fire_tally.new.board in
+    let memory' = c.fire_tally.new.memory in
+    let F : NetMeaning → Type 0 = λ M. Fired M s tally T memory c.fire_tally.result (H b') (R b') memory' in
+    let fired = subst F c.read-table.ensures c.fire_tally.ensures in
+    let e = c.in_err-length.field-0.0 in
     let ErrF : Result ℕ Refusal → Type 0 = λ r. Fired N.net s tally T memory r (H b') (R b') memory' in
-    let refused = subst ErrF c.in-err-length.was fired in
+    let refused = subst ErrF c.in_err-length.was fired in
     let said : c.from-residual.result ≡ Err e = search rules in
     record {
       net = refl;
@@ -37,8 +37,8 @@ returns-in-err-length g c =
       memory = refused.written;
     }
 
-pub add-tally-requires : goal.add-tally-requires
-add-tally-requires g c =
+pub add_tally-requires : goal.add_tally-requires
+add_tally-requires g c =
     let a = c.args.self.now in
     let N = g.N.Net.meaning a.net in
     let t = c.read-table.result in
@@ -48,20 +48,20 @@ add-tally-requires g c =
     let tally = c.args.tally.now in
     let T = target_of c.args.target.numbers.now c.args.target.kind in
     let memory = c.args.order.now in
-    let b' = c.fire-tally.new.board in
-    let memory' = c.fire-tally.new.memory in
-    let F : NetMeaning → Type 0 = λ M. Fired M s tally T memory c.fire-tally.result (H b') (R b') memory' in
-    let fired = subst F c.read-table.ensures c.fire-tally.ensures in
+    let b' = c.fire_tally.new.board in
+    let memory' = c.fire_tally.new.memory in
+    let F : NetMeaning → Type 0 = λ M. Fired M s tally T memory c.fire_tally.result (H b') (R b') memory' in
+    let fired = subst F c.read-table.ensures c.fire_tally.ensures in
     let OkF : Result ℕ Refusal → Type 0 = λ r. Fired N.net s tally T memory r (H b') (R b') memory' in
-    let done = subst OkF c.in-ok-length.was fired in
-    let fits = fits_now N.net N.law s tally T (length memory) (accepted_with (resume_refusal N.net s tally T (length memory)) _ c.in-ok-length.length done.answer) in
+    let done = subst OkF c.in_ok-length.was fired in
+    let fits = fits_now N.net N.law s tally T (length memory) (accepted_with (resume_refusal N.net s tally T (length memory)) _ c.in_ok-length.length done.answer) in
     record {
       inside = omega (arith, fits.rows.tally_long, N.law.few_steps, a.long);
       fits = counts_fit a.done tally N.net.steps a.long fits.rows.tally_long N.law.few_steps fits.within_limit;
     }
 
-pub invariant-of-self-2 : goal.invariant-of-self-2
-invariant-of-self-2 g c =
+pub invariant_of-self-2 : goal.invariant_of-self-2
+invariant_of-self-2 g c =
     let a = c.args.self.now in
     let N = g.N.Net.meaning a.net in
     let t = c.read-table.result in
@@ -71,13 +71,13 @@ invariant-of-self-2 g c =
     let tally = c.args.tally.now in
     let T = target_of c.args.target.numbers.now c.args.target.kind in
     let memory = c.args.order.now in
-    let b' = c.fire-tally.new.board in
-    let memory' = c.fire-tally.new.memory in
-    let F : NetMeaning → Type 0 = λ M. Fired M s tally T memory c.fire-tally.result (H b') (R b') memory' in
-    let fired = subst F c.read-table.ensures c.fire-tally.ensures in
+    let b' = c.fire_tally.new.board in
+    let memory' = c.fire_tally.new.memory in
+    let F : NetMeaning → Type 0 = λ M. Fired M s tally T memory c.fire_tally.result (H b') (R b') memory' in
+    let fired = subst F c.read-table.ensures c.fire_tally.ensures in
     let OkF : Result ℕ Refusal → Type 0 = λ r. Fired N.net s tally T memory r (H b') (R b') memory' in
-    let done = subst OkF c.in-ok-length.was fired in
-    let fits = fits_now N.net N.law s tally T (length memory) (accepted_with (resume_refusal N.net s tally T (length memory)) _ c.in-ok-length.length done.answer) in (
-      c.add-tally.auto.done ∙ a.long,
-      (omega (arith, added_total a.done tally c.add-tally.new.done N.net.steps fits.rows.tally_long N.law.few_steps c.add-tally.ensures, fits.within_limit), tt),
+    let done = subst OkF c.in_ok-length.was fired in
+    let fits = fits_now N.net N.law s tally T (length memory) (accepted_with (resume_refusal N.net s tally T (length memory)) _ c.in_ok-length.length done.answer) in (
+      c.add_tally.auto.done ∙ a.long,
+      (omega (arith, added_total a.done tally c.add_tally.new.done N.net.steps fits.rows.tally_long N.law.few_steps c.add_tally.ensures, fits.within_limit), tt),
     )

@@ -4,18 +4,18 @@ use Rattle.tables.proofs.net_table.NetTable.read.Given as given
 use Rattle.tables.proofs.net_table.NetTable.read.Goals as goal
 
 holds : (g : given.Over) (c : goal.After-steps g) →
-    Holds (g.N.Net.meaning c.args.net.now).net c.places.result c.steps.result c.read-inputs.new.inputs
-    c.read-yields.new.yields
+    Holds (g.N.Net.meaning c.args.net.now).net c.places.result c.steps.result c.read_inputs.new.inputs
+    c.read_yields.new.yields
 holds g c =
     record {
       places = c.places.ensures;
       steps = c.steps.ensures;
-      inputs = c.read-inputs.ensures;
-      yields = c.read-yields.ensures;
+      inputs = c.read_inputs.ensures;
+      yields = c.read_yields.ensures;
     }
 
-pub invariant-of-result : goal.invariant-of-result
-invariant-of-result g c =
+pub invariant_of-result : goal.invariant_of-result
+invariant_of-result g c =
     let law = (g.N.Net.meaning c.args.net.now).law in (
       omega (arith, law.some_place, c.places.ensures),
       (
@@ -35,6 +35,6 @@ returns g c =
     same_net _ (g.N.Net.meaning c.args.net.now).law _ _ _ _ (record {
       places = c.places.ensures;
       steps = c.steps.ensures;
-      inputs = c.read-inputs.ensures;
-      yields = c.read-yields.ensures;
+      inputs = c.read_inputs.ensures;
+      yields = c.read_yields.ensures;
     })

@@ -12,5 +12,5 @@ returns g c =
     let N = g.N.Net.meaning asked.net.now in
     let missed : ℕ → Bool =
     is_missed N.net (at asked.counts.now) (at asked.tally.now) (record { numbers = c.args.target.now; kind = c.args.kind }) in
-    let found : c.least-place.result ≡ least (bytes_only missed) c.places.result = c.least-place.ensures in
+    let found : c.least_place.result ≡ least (bytes_only missed) c.places.result = c.least_place.ensures in
     found ∙ ap (least (bytes_only missed)) c.places.ensures ∙ least_of_bytes missed N.net.places (omega (arith, N.law.few_places))

@@ -10,5 +10,5 @@ returns g c =
     let asked = c.args.self.now in
     let N = g.N.Net.meaning asked.net.now in
     let short : ℕ → Bool = is_short N.net (at asked.counts.now) (at asked.tally.now) in
-    let found : c.least-place.result ≡ least (bytes_only short) c.places.result = c.least-place.ensures in
+    let found : c.least_place.result ≡ least (bytes_only short) c.places.result = c.least_place.ensures in
     found ∙ ap (least (bytes_only short)) c.places.ensures ∙ least_of_bytes short N.net.places (omega (arith, N.law.few_places))
