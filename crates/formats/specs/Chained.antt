@@ -4,7 +4,7 @@ use Rattle.std.specs.Prelude.{ℕ, zero, suc, ◌+◌, ◌*◌, Bool, cond, not,
 use Rattle.refusals.specs.declared.Refusal.{Refusal}
 use Rattle.refusals.specs.declared.Refusal.TheVariants.{WrongLength, PlacesOutOfRange, TooManyStepsOrArcs, StepUnfit, ArcUnfit, StepWithoutYield}
 use Rattle.theory.specs.Nets.{NetMeaning}
-use Rattle.formats.specs.Checks.{byte, two_bytes, fault, least_fault, first_of}
+use Rattle.formats.specs.Checks.{byte, two_bytes, fault, least_fault, first_refusal}
 
 -- P, T and A
 abbrev pub chained_places : List ℕ → ℕ
@@ -63,7 +63,7 @@ chained_end file = 4 + 3 * chained_steps file + 4 * chained_arcs file
 -- the first fault of the head, and of the length where the file is to have so many bytes
 abbrev pub head_refusal : List ℕ → ℕ → Option Refusal
 head_refusal file end =
-    first_of
+    first_refusal
     (fault (nat_lt (length file) 4) WrongLength
     ∷ fault (chained_places file == 0 || nat_lt 64 (chained_places file)) PlacesOutOfRange
     ∷ fault (nat_lt 128 (chained_steps file) || nat_lt 1023 (chained_arcs file)) TooManyStepsOrArcs
@@ -77,7 +77,7 @@ chained_head_refusal file = head_refusal file (chained_end file)
 -- the first fault of the steps and arcs
 abbrev pub chained_rows_refusal : List ℕ → Option Refusal
 chained_rows_refusal file =
-    first_of
+    first_refusal
     (least_fault (chained_step_unfit file) (chained_steps file) StepUnfit
     ∷ least_fault (λ k. arc_unfit file (k + 1)) (chained_arcs file) (λ k. ArcUnfit (k + 1))
     ∷ least_fault (chain_empty file) (chained_steps file) StepWithoutYield
@@ -85,7 +85,7 @@ chained_rows_refusal file =
 
 -- the first fault of the file
 abbrev pub chained_refusal : List ℕ → Option Refusal
-chained_refusal file = first_of (chained_head_refusal file ∷ chained_rows_refusal file ∷ [])
+chained_refusal file = first_refusal (chained_head_refusal file ∷ chained_rows_refusal file ∷ [])
 
 -- the weight of the chain's arc at place p, in a chain of at most n arcs that begins at arc a
 abbrev pub chain_yield : List ℕ → ℕ → ℕ → ℕ → ℕ

@@ -7,8 +7,8 @@ unfoldable pub has : ℕ → ℕ → Bool
 has w p = w / 2 ^ p % 2 == 1
 
 -- the least of the places 0 to 63 that is in the set
-unfoldable pub first_of : ℕ → Option ℕ
-first_of w = least (has w) 64
+unfoldable pub first_place : ℕ → Option ℕ
+first_place w = least (has w) 64
 
 -- nothing is in the set
 abbrev pub Empty : ℕ → Type 0

@@ -1,6 +1,6 @@
 //! Place sets: a set of places 0 to 63 as the 64 flags of one word.
 ghost use Rattle.std.specs.Prelude.{◌≡◌, ℕ, ◌^◌, ◌<◌, false, not, ◌&&◌, ◌||◌, Decides, MatchOption, ◌==◌, nat_lt};
-ghost use Rattle.place_sets.specs.Flags.{has, first_of, Empty, IsFirst};
+ghost use Rattle.place_sets.specs.Flags.{has, first_place, Empty, IsFirst};
 
 /// A set of places 0 to 63.
 #[derive(Clone, Copy)]
@@ -75,7 +75,7 @@ impl PlaceSet {
 
     /// The least place of the set.
     pub fn first(self) -> Option<u8>
-        ensures answer { result ≡ first_of self.word }
+        ensures answer { result ≡ first_place self.word }
         ensures cases { MatchOption result (Empty self.word) (IsFirst self.word) }
     {
         let zeros = self.word.trailing_zeros();

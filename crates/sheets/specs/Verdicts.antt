@@ -7,7 +7,7 @@ use Rattle.theory.specs.Sums.{sum_to}
 use Rattle.theory.specs.Firing.{Marking}
 use Rattle.theory.specs.Orders.{Earlier}
 use Rattle.boards.specs.Boards.{board_limit}
-use Rattle.formats.specs.Checks.{fault, first_of}
+use Rattle.formats.specs.Checks.{fault, first_refusal}
 use Rattle.formats.specs.Chained.{head_refusal, chained_refusal}
 use Rattle.answers.specs.States.{State, new_on}
 use Rattle.answers.specs.Answers.{resume_refusal, the_order}

@@ -29,7 +29,7 @@ returns-in-Ok c =
     ap (take (n - 0)) (found.order ∙ ap (λ z. unless z memory (written order memory)) none) ∙ take_at order (drop (length order) memory) (n - 0) (omega arith) in
     let line : ok_line (take (n - 0) c.find_order.new.order) ≡ sheet_line sheet = ap ok_line part ∙ ap (λ z. line_for z order) (sym none) in
     let L : List ℕ → Type 0 = λ z. LineWritten z c.args.text.now c.write_order.result c.write_order.new.text in
-    record { line = subst L line c.write_order.ensures; verdict = judged sheet (λ i. omega (arith, c.type-inv.sheet i)) }
+    record { line = subst L line c.write_order.ensures; verdict = judged sheet (λ i. omega (arith, c.type_inv.sheet i)) }
 
 pub returns-in-Err : goal.returns-in-Err
 returns-in-Err c =
@@ -41,5 +41,5 @@ returns-in-Err c =
     let L : List ℕ → Type 0 = λ z. LineWritten z c.args.text.now c.write_refusal.result c.write_refusal.new.text in
     record {
       line = subst L (ap (λ z. line_for z order) (sym some)) c.write_refusal.ensures;
-      verdict = judged sheet (λ i. omega (arith, c.type-inv.sheet i));
+      verdict = judged sheet (λ i. omega (arith, c.type_inv.sheet i));
     }

@@ -10,13 +10,13 @@ loop-count-init c = (omega (arith, sum_to_zero (at_place c.args.row.now)), omega
 pub loop-count-preserved : goal.loop-count-preserved
 loop-count-preserved c =
     let row = c.args.row.now in
-    let i = c.loop-count.count_index in
+    let i = c.loop-count.count-index in
     let inv = c.loop-count.invariant in
-    (omega (arith, inv.0, sum_to_suc (at_place row) i), omega (arith, inv.1, c.type-inv.row i))
+    (omega (arith, inv.0, sum_to_suc (at_place row) i), omega (arith, inv.1, c.type_inv.row i))
 
 pub returns : goal.returns
 returns c =
     let row = c.args.row.now in
     let inv = c.loop-count.invariant in
-    let e : c.loop-count.count_index ≡ 64 = omega (arith, c.requires) in
+    let e : c.loop-count.count-index ≡ 64 = omega (arith, c.requires) in
     record { value = omega (arith, inv.0, ap (sum_to (at_place row)) e); bound = omega (arith, inv.1, e) }

@@ -7,7 +7,7 @@ pub loop-seen-preserved : goal.loop-seen-preserved
 loop-seen-preserved c =
     let file = c.args.file.now in
     let A = chained_arcs file in
-    let seen = c.loop-seen.-seen in
+    let seen = c.loop-seen._seen in
     let less : A - seen - 1 ≡ A - (seen + 1) = omega arith in
     c.loop-seen.invariant
     ∙ chain_next file (A - seen) c.loop-seen.arc c.args.place (omega (arith, c.loop-seen-test.true, c.arcs-seen-end.ensures)) (omega (arith, c.if-arc-eq0.false)) (λ e. c.if-place_of-place.false (c.place_of.ensures ∙ e))
@@ -17,16 +17,16 @@ loop-seen-preserved c =
 pub returns-then-arc-eq0 : goal.returns-then-arc-eq0
 returns-then-arc-eq0 c =
     let file = c.args.file.now in
-    sym (c.loop-seen.invariant ∙ chain_end file (chained_arcs file - c.loop-seen.-seen) c.loop-seen.arc c.args.place c.if-arc-eq0.true)
+    sym (c.loop-seen.invariant ∙ chain_end file (chained_arcs file - c.loop-seen._seen) c.loop-seen.arc c.args.place c.if-arc-eq0.true)
 
 pub returns-then-place_of-place : goal.returns-then-place_of-place
 returns-then-place_of-place c =
     let file = c.args.file.now in
-    let here = chain_here file (chained_arcs file - c.loop-seen.-seen) c.loop-seen.arc c.args.place (omega (arith, c.loop-seen-test.true, c.arcs-seen-end.ensures)) (omega (arith, c.if-arc-eq0.false)) (sym c.place_of.ensures ∙ c.if-place_of-place.true) in
+    let here = chain_here file (chained_arcs file - c.loop-seen._seen) c.loop-seen.arc c.args.place (omega (arith, c.loop-seen-test.true, c.arcs-seen-end.ensures)) (omega (arith, c.if-arc-eq0.false)) (sym c.place_of.ensures ∙ c.if-place_of-place.true) in
     c.weight_of.ensures ∙ sym (c.loop-seen.invariant ∙ here)
 
 pub returns : goal.returns
 returns c =
     let file = c.args.file.now in
-    let none : chained_arcs file - c.loop-seen.-seen ≡ 0 = omega (arith, c.loop-seen-test.false, c.arcs-seen-end.ensures) in
+    let none : chained_arcs file - c.loop-seen._seen ≡ 0 = omega (arith, c.loop-seen-test.false, c.arcs-seen-end.ensures) in
     sym (c.loop-seen.invariant ∙ ap (λ z. chain_yield file z c.loop-seen.arc c.args.place) none)

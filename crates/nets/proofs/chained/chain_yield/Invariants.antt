@@ -6,4 +6,4 @@ use Rattle.nets.proofs.chained.chain_yield.Given as goal
 abbrev pub invariant-loop-seen : goal.invariant-loop-seen
 invariant-loop-seen l =
     chain_yield l.file (chained_arcs l.file) l.first l.place
-    ≡ chain_yield l.file (chained_arcs l.file - l.-seen) l.arc l.place
+    ≡ chain_yield l.file (chained_arcs l.file - l._seen) l.arc l.place

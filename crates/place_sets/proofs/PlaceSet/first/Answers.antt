@@ -1,12 +1,12 @@
 use Rattle.std.proofs.Common.{ℕ, ◌^◌, ◌<◌, sym, inl, inr, arith}
 use lib.Count.{count_trailing_zeros}
 use Rattle.theory.proofs.Decided.{least_found, none_found}
-use Rattle.place_sets.specs.Flags.{has, first_of}
+use Rattle.place_sets.specs.Flags.{has, first_place}
 use Rattle.place_sets.proofs.FlagLaws.{trailing_lowest, none_above}
 use Rattle.place_sets.proofs.PlaceSet.first.Goals as goal
 
 pub returns-then-zeros : goal.returns-then-zeros
-unfolding first_of
+unfolding first_place
 returns-then-zeros c =
     let w : ℕ = c.args.self.word in
     elim (trailing_lowest 64 w) [
@@ -18,7 +18,7 @@ returns-then-zeros c =
     ]
 
 pub returns-else-zeros : goal.returns-else-zeros
-unfolding first_of
+unfolding first_place
 returns-else-zeros c =
     let w : ℕ = c.args.self.word in
     let l : w < 2 ^ 64 = omega arith in

@@ -8,4 +8,4 @@ loop-number-init g c = (sym (sum_to_zero (g.T.Terms.value c.args.terms.now)), om
 pub loop-number-preserved : goal.loop-number-preserved
 loop-number-preserved g c =
     let more = sum_to_suc (g.T.Terms.value c.args.terms.now) c.loop-number.number in
-    (omega (arith, c.loop-number.invariant.0, c.term.ensures), omega (arith, c.loop-number.invariant.1, c.term.type-inv))
+    (omega (arith, c.loop-number.invariant.0, c.term.ensures), omega (arith, c.loop-number.invariant.1, c.term.type_inv))

@@ -10,4 +10,7 @@ overflow_add-self c =
 pub invariant_of-self : goal.invariant_of-self
 invariant_of-self c =
     let b = c.args.self.now in
-    (length-set b.counts _ _ ∙ b.long, (law_after b.counts _ _ b.spare _ b.long (omega arith) (omega arith) b.lawful, tt))
+    record {
+      long = length-set b.counts _ _ ∙ b.long;
+      lawful = law_after b.counts _ _ b.spare _ b.long (omega arith) (omega arith) b.lawful;
+    }

@@ -5,4 +5,7 @@ use Rattle.boards.proofs.count_board.CountBoardBoard.take.Goals as goal
 pub invariant_of-self : goal.invariant_of-self
 invariant_of-self c =
     let b = c.args.self.now in
-    (length-set b.counts _ _ ∙ b.long, (law_after b.counts _ _ b.spare _ b.long (omega arith) (omega arith) b.lawful, tt))
+    record {
+      long = length-set b.counts _ _ ∙ b.long;
+      lawful = law_after b.counts _ _ b.spare _ b.long (omega arith) (omega arith) b.lawful;
+    }

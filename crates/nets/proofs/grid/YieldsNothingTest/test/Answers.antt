@@ -16,10 +16,10 @@ none_passes b n h = not_true (any_below b n) (λ e. let some = any_find b n e in
 pub returns : goal.returns
 returns c =
     let file = c.args.self.now.0.now in
-    sym (ap not (none_passes (λ p. ltb 0 (grid_yield file c.args.number p)) (grid_places file) (λ p h. c.loop-place.invariant p (omega (arith, c.byte-at_place-end.ensures)))))
+    sym (ap not (none_passes (λ p. ltb 0 (grid_yield file c.args.number p)) (grid_places file) (λ p h. c.loop-place.invariant p (omega (arith, c.byte_at-place-end.ensures)))))
 
 pub returns-then-yield_of-gt0 : goal.returns-then-yield_of-gt0
 returns-then-yield_of-gt0 c =
     let file = c.args.self.now.0.now in
     let some : 0 < grid_yield file c.args.number c.loop-place.place = omega (arith, c.yield_of.ensures, c.if-yield_of-gt0.true) in
-    sym (ap not (any_from (λ p. ltb 0 (grid_yield file c.args.number p)) c.loop-place.place (grid_places file) (omega (arith, c.byte-at_place-end.ensures, c.loop-place-test.true)) (lt-ltb _ _ some)))
+    sym (ap not (any_from (λ p. ltb 0 (grid_yield file c.args.number p)) c.loop-place.place (grid_places file) (omega (arith, c.byte_at-place-end.ensures, c.loop-place-test.true)) (lt-ltb _ _ some)))

@@ -16,4 +16,7 @@ invariant_of-self g c =
     let s = c.args.self.now in
     let N = g.N.Net.meaning s.net in
     let inside : c.args.step < 128 = omega (arith, N.law.few_steps, c.in-Some.ensures.0) in
-    (length-set s.done c.args.step _ ∙ s.long, (omega (arith, c.done_total.ensures.answer, one_more_total s.done 128 c.args.step s.long inside), tt))
+    record {
+      long = length-set s.done c.args.step _ ∙ s.long;
+      total = omega (arith, c.done_total.ensures.answer, one_more_total s.done 128 c.args.step s.long inside);
+    }

@@ -9,7 +9,7 @@ zeros : (t : ℕ) → at (replicate 128 0) t ≡ 0
 zeros t = ⊎_elim (λ h. get_or-replicate 128 t 0 0 h) (λ h. get_or_past (replicate 128 0) t 0 h) (cases_lt t 128)
 
 pub invariant_of-result : goal.invariant_of-result
-invariant_of-result g c = (refl, (omega (arith, sum_to_none (at (replicate 128 0)) 128 (λ t _. zeros t)), tt))
+invariant_of-result g c = record { long = refl; total = omega (arith, sum_to_none (at (replicate 128 0)) 128 (λ t _. zeros t)) }
 
 pub returns : goal.returns
 returns g c = record { net = refl; board = refl; done = zeros }

@@ -16,19 +16,15 @@ holds g c =
 
 pub invariant_of-result : goal.invariant_of-result
 invariant_of-result g c =
-    let law = (g.N.Net.meaning c.args.net.now).law in (
-      omega (arith, law.some_place, c.places.ensures),
-      (
-        omega (arith, law.few_places, c.places.ensures),
-        (
-          omega (arith, law.few_steps, c.steps.ensures),
-          (
-            inputs_within _ law _ _ _ _ (holds g c),
-            (yields_small _ law _ _ _ _ (holds g c), (yields_at_some_place _ law _ _ _ _ (holds g c), tt)),
-          ),
-        ),
-      ),
-    )
+    let law = (g.N.Net.meaning c.args.net.now).law in
+    record {
+      some_place = omega (arith, law.some_place, c.places.ensures);
+      few_places = omega (arith, law.few_places, c.places.ensures);
+      few_steps = omega (arith, law.few_steps, c.steps.ensures);
+      inputs_inside = inputs_within _ law _ _ _ _ (holds g c);
+      yields_small = yields_small _ law _ _ _ _ (holds g c);
+      yields_something = yields_at_some_place _ law _ _ _ _ (holds g c);
+    }
 
 pub returns : goal.returns
 returns g c =
