@@ -77,7 +77,8 @@ invariant_of-self-2 g c =
     let fired = subst F c.read-table.ensures c.fire_tally.ensures in
     let OkF : Result ℕ Refusal → Type 0 = λ r. Fired N.net s tally T memory r (H b') (R b') memory' in
     let done = subst OkF c.in_ok-length.was fired in
-    let fits = fits_now N.net N.law s tally T (length memory) (accepted_with (resume_refusal N.net s tally T (length memory)) _ c.in_ok-length.length done.answer) in (
-      c.add_tally.auto.done ∙ a.long,
-      (omega (arith, added_total a.done tally c.add_tally.new.done N.net.steps fits.rows.tally_long N.law.few_steps c.add_tally.ensures, fits.within_limit), tt),
-    )
+    let fits = fits_now N.net N.law s tally T (length memory) (accepted_with (resume_refusal N.net s tally T (length memory)) _ c.in_ok-length.length done.answer) in
+    record {
+      long = c.add_tally.auto.done ∙ a.long;
+      total = omega (arith, added_total a.done tally c.add_tally.new.done N.net.steps fits.rows.tally_long N.law.few_steps c.add_tally.ensures, fits.within_limit);
+    }
