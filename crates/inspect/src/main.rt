@@ -51,7 +51,7 @@ fn inspect(rt: &HostRuntime, make: &str, name: &str) -> anyhow::Result<bool> {
             let loaded = net.load(file);
             Ok(show(rt, make, &net, loaded)?)
         }
-        _ => Err(USAGE.into()),
+        _ => Err(anyhow!(USAGE)),
     }
 }
 
@@ -64,12 +64,12 @@ fn run(rt: &HostRuntime) -> anyhow::Result<bool> {
     let mut accepted = true;
     for pair in words.as_slice().chunks(2) {
         let [make, name] = pair else {
-            return Err(USAGE.into());
+            return Err(anyhow!(USAGE));
         };
         accepted = inspect(rt, make.as_str(), name.as_str())? && accepted;
     }
     if words.is_empty() {
-        Err(USAGE.into())
+        Err(anyhow!(USAGE))
     } else {
         Ok(accepted)
     }

@@ -56,12 +56,12 @@ returns g c =
     let none : o ≡ None = sym (c.survey_refusal.ensures H (g.B.Board.spare b)) ∙ c.in_default.is in
     let m = at c.all_counts-counts.result in
     let counted : m ≡ H = fun_ext c.all_counts-counts.ensures.answer in
-    let word = c.cut-off-cut_off.result.word in
+    let word = c.cut_off-cut_off.result.word in
     let first = finding_at (bytes_only (is_short N.net m x)) (short_finding N.net m x) in
     let second = finding_at (bytes_only (has word)) cut_off_finding in
     let third = finding_at (bytes_only (is_missed N.net m x T)) (missed_finding N.net m x T) in
     let cut : (p : ℕ) → p < P → bytes_only (has word) p ≡ is_cut_off N.net m x p =
-    λ p h. below_bytes (has word) P few p h ∙ c.cut-off-cut_off.ensures N.net m x N.law c.new.ensures p ∙ ap (λ z. z && is_cut_off N.net m x p) (lt-ltb p P h) in
+    λ p h. below_bytes (has word) P few p h ∙ c.cut_off-cut_off.ensures N.net m x N.law c.new.ensures p ∙ ap (λ z. z && is_cut_off N.net m x p) (lt-ltb p P h) in
     let groups : found_below first P ++ (found_below second P ++ found_below third P) ≡ all =
     ap (λ z. z ++ (found_below second P ++ found_below third P)) (found_by (is_short N.net m x) (bytes_only (is_short N.net m x)) (short_finding N.net m x) P (below_bytes (is_short N.net m x) P few))
     ∙ ap (λ z. found (is_short N.net m x) (short_finding N.net m x) P ++ (z ++ found_below third P)) (found_by (is_cut_off N.net m x) (bytes_only (has word)) cut_off_finding P cut)

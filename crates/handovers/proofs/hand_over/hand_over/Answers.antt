@@ -13,11 +13,11 @@ use Rattle.handovers.proofs.Replaying.{handed_over}
 use Rattle.handovers.proofs.hand_over.hand_over.Goals as goal
 
 pub returns-in_err-said : goal.returns-in_err-said
-returns-in_err-said g c = record { promise = promise; pinned = pinned; handed_over = made_err c.from-residual.result _ c.from-residual.ensures.0 }
+returns-in_err-said g c = record { promise = promise; pinned = pinned; handed_over = made_err c.from_residual.result _ c.from_residual.ensures.0 }
 
 pub returns-in_err-answer : goal.returns-in_err-answer
 returns-in_err-answer g c =
-    record { promise = promise; pinned = pinned; handed_over = made_err c.from-residual-in-err-answer.result _ c.from-residual-in-err-answer.ensures.0 }
+    record { promise = promise; pinned = pinned; handed_over = made_err c.from_residual-in-err-answer.result _ c.from_residual-in-err-answer.ensures.0 }
 
 pub returns : goal.returns
 returns g c =

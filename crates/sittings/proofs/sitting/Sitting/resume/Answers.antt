@@ -29,7 +29,7 @@ returns-in_err-length g c =
     let e = c.in_err-length.field-0.0 in
     let ErrF : Result ℕ Refusal → Type 0 = λ r. Fired N.net s tally T memory r (H b') (R b') memory' in
     let refused = subst ErrF c.in_err-length.was fired in
-    let said : c.from-residual.result ≡ Err e = search rules in
+    let said : c.from_residual.result ≡ Err e = search rules in
     record {
       net = refl;
       answer = said ∙ refused.answer;
