@@ -79,7 +79,7 @@ module _ (N : NetMeaning) (s : State) (tally : List ℕ) (target : Target) where
 pub made_like : (make : List ℕ → Target → ℕ → Call) (N : NetMeaning) (s : State) (tally tally' numbers numbers' : List ℕ) (kind kind' memory memory' : ℕ) (answer : Answer) (s' : State) →
     tally ≡ tally' → numbers ≡ numbers' → kind ≡ kind' → memory ≡ memory' →
     Made N s (make tally (target_of numbers kind) memory) answer s' → Made N s (make tally' (target_of numbers' kind') memory') answer s'
-made_like make N s tally tally' numbers numbers' kind kind' memory memory' answer s' a b c d IfOk =
+made_like make N s tally tally' numbers numbers' kind kind' memory memory' answer s' a b c d made =
     let M : Call → Type 0 = λ call. Made N s call answer s' in
     subst M
     (ap (λ z. make z (target_of numbers kind) memory) a
@@ -90,14 +90,14 @@ made_like make N s tally tally' numbers numbers' kind kind' memory memory' answe
 -- one call more is made
 pub all_made_more : (N : NetMeaning) (s : State) (calls : List Call) (transcript : List Answer) (s₁ : State) (call : Call) (answer : Answer) (s₂ : State) →
     AllMade N s calls transcript s₁ → Made N s₁ call answer s₂ → AllMade N s (calls ++ (call ∷ [])) (transcript ++ (answer ∷ [])) s₂
-all_made_more N s calls transcript s₁ call answer s₂ all IfOk =
+all_made_more N s calls transcript s₁ call answer s₂ all made =
     let same = all.left in
     record {
       transcript =
           ap (λ z. z ++ (answer ∷ [])) all.transcript
-          ∙ ap (λ z. answers_to N s calls ++ (z ∷ [])) (IfOk.said ∙ ap (λ z. answer_to N z call) same)
+          ∙ ap (λ z. answers_to N s calls ++ (z ∷ [])) (made.said ∙ ap (λ z. answer_to N z call) same)
           ∙ sym (answers_one_more N s calls call);
-      left = IfOk.left ∙ ap (λ z. after_call N z call) same ∙ sym (after_one_more N s calls call);
+      left = made.left ∙ ap (λ z. after_call N z call) same ∙ sym (after_one_more N s calls call);
     }
 
 -- what holds of an error, where the answer is one

@@ -46,7 +46,7 @@ fn replay<N: Net + Drop, C: Board + Drop>(
 ) -> Result<(Answer, Sitting<N, C>), AllocError>
     requires long { 128 ≤ length done.now }
     requires wide { 64 ≤ length marking.now }
-    ensures { IfOk result (λ h. Made (N.meaning net).net (new_on (B.counts board) (B.spare board)) (counters_of (N.meaning net).net (held (at marking.now) 0 done.now) memory) (said_of h.0) (held (counts h.1.board) (spare h.1.board) h.1.done)) }
+    ensures { IfOk result (λ h. Made (N.meaning net).net (new_on (C.counts board) (C.spare board)) (counters_of (N.meaning net).net (held (at marking.now) 0 done.now) memory) (said_of h.0) (held (C.counts h.1.board) (C.spare h.1.board) h.1.done)) }
 {
     let tally = done[0..net.steps() as usize].to_vec(heap)?;
     let numbers = marking[0..net.places() as usize].to_vec(heap)?;

@@ -1,4 +1,6 @@
 //! The bounded list: elements of any kind, one behind the other, at the front of lent memory.
+#![tactic(auto)]
+
 ghost use Rattle.std.specs.Prelude.{◌≡◌, ℕ, ◌+◌, ◌≤◌, length, Option};
 ghost use Rattle.lists.specs.Lists.{Adds, AddsFound, Gets, Writes};
 

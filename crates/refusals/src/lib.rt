@@ -1,4 +1,6 @@
 //! Refusals: why a call says no, with a number and a detail for each.
+#![tactic(auto)]
+
 ghost use Rattle.refusals.specs.Refusals.{number_of, detail_of, words_of, shown_as};
 ghost use Rattle.std.specs.Prelude.{◌≡◌, Some};
 

@@ -1,4 +1,6 @@
 //! Searches: the least of numbered things that passes a test.
+#![tactic(auto)]
+
 ghost use Rattle.std.specs.Prelude.{◌≡◌, ℕ, ◌<◌, Bool, IfSome};
 ghost use Rattle.theory.specs.Tests.{least};
 

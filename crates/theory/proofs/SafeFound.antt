@@ -1,5 +1,5 @@
 -- A step is safe by what happens at its input place, and any closed set of reached places has them all.
-use Rattle.std.proofs.Common.{◌≡◌, ℕ, ◌+◌, ◌-◌, ◌<◌, Bool, ◌&&◌, eqb, ltb, ◌⊎◌, sym, subst, inl, inr, arith}
+use Rattle.std.proofs.Common.{◌≡◌, ℕ, ◌+◌, ◌<◌, Bool, ◌&&◌, eqb, ltb, ◌⊎◌, sym, subst, inl, inr, arith}
 use Rattle.std.proofs.lemmas.Bool.{cases_Bool}
 use Rattle.std.proofs.lemmas.Bool.Decides.{Decides-and, Decides-ltb, Decides-eqb, same_from_decides, not_from_Decides}
 use Rattle.theory.specs.Nets.{NetMeaning}

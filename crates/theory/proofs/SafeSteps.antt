@@ -1,6 +1,6 @@
 -- Where no place is short and the inputs of the steps are reached, there is a step after which that
 -- still holds, and so an order that does the tally.
-use Rattle.std.proofs.Common.{◌≡◌, ℕ, zero, suc, ◌-◌, ◌*◌, ◌<◌, ◌⊎◌, [], ◌∷◌, sym, refl, subst, inl, inr, mul-pos, arith}
+use Rattle.std.proofs.Common.{◌≡◌, ℕ, zero, suc, ◌*◌, ◌<◌, ◌⊎◌, [], ◌∷◌, sym, refl, subst, inl, inr, mul-pos, arith}
 use Rattle.std.proofs.lemmas.Bool.{cases_eq, cases_lt}
 use Rattle.theory.specs.Nets.{NetMeaning, InputsInside}
 use Rattle.theory.specs.Firing.{Marking, one_at, fired}

@@ -1,5 +1,5 @@
 -- Sums over the steps of a tally, and of a tally with one step done.
-use Rattle.std.proofs.Common.{◌≡◌, ℕ, zero, suc, ◌+◌, ◌-◌, ◌*◌, ◌<◌, ◌≤◌, cond, eqb, ◌⊎◌, sym, refl, ap, inl, inr, suc-mul, add-mul, mul-zero, zero-mul, arith}
+use Rattle.std.proofs.Common.{◌≡◌, ℕ, zero, suc, ◌+◌, ◌-◌, ◌*◌, ◌<◌, eqb, ◌⊎◌, sym, refl, ap, inl, inr, suc-mul, add-mul, mul-zero, zero-mul, arith}
 use Rattle.std.proofs.lemmas.Bool.{cases_eq, cases_lt, eq-eqb, ne_eqb, cond-true, cond-false}
 use Rattle.theory.specs.Sums.{sum_to}
 use Rattle.theory.specs.Firing.{one_at}

@@ -2,6 +2,8 @@
 //!
 //! The definitions stand in specs/. A function here does no work: its contract states theorems, so
 //! that the crate is proved only with their proofs.
+#![tactic(auto)]
+
 ghost use Rattle.std.specs.Prelude.{◌≡◌};
 ghost use Rattle.theory.specs.Cases.{CasesHold};
 ghost use Rattle.theory.specs.Laws.{DoneExactlyIf, EndsAtFinalNumbers, ShortBelowZero};

@@ -1,7 +1,7 @@
-use Rattle.std.proofs.Common.{◌≡◌, ◌+◌, ◌<◌, ◌≤◌, List, [], ◌∷◌, ◌++◌, length, take, Some, None, sym, refl, ap, ◌∙◌, subst, arith, length-append, length-take}
+use Rattle.std.proofs.Common.{◌≡◌, ◌+◌, ◌<◌, [], ◌∷◌, ◌++◌, length, take, Some, None, sym, refl, ap, ◌∙◌, arith, length-append, length-take}
 use Rattle.std.proofs.lemmas.List.{append-nil}
 use Rattle.lists.specs.Lists.{found_below}
-use Rattle.lists.proofs.Written.{Written, written_more}
+use Rattle.lists.proofs.Written.{written_more}
 use Rattle.lists.proofs.Founds.{found_few, front_more, written_front, written_at, extended}
 use Rattle.lists.proofs.add_found.Goals as goal
 use Rattle.lists.proofs.add_found.Goals.{in-Some, in_default}

@@ -9,8 +9,8 @@ use Rattle.sheets.specs.Verdicts.{sheet_refusal, sheet_order, sheet_line, line_f
 use Rattle.sheets.proofs.Judging.{judged}
 use Rattle.sheets.proofs.judge.Goals as goal
 
-pub slice-bounds-write-order-end : goal.slice-bounds-write_order-end
-slice-bounds-write-order-end c =
+pub slice_bounds-write_order-end : goal.slice_bounds-write_order-end
+slice_bounds-write_order-end c =
     let fits : c.in-Ok.length ≤ 4096 = omega (arith, c.in-Ok.ensures.fits, length-replicate {A = ℕ} 4096 0) in
     let long : length c.find_order.new.order ≡ 4096 = c.find_order.auto.order ∙ length-replicate {A = ℕ} 4096 0 in
     search rules

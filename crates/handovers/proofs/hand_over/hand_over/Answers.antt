@@ -17,7 +17,7 @@ returns-in_err-said g c = record { promise = promise; pinned = pinned; handed_ov
 
 pub returns-in_err-answer : goal.returns-in_err-answer
 returns-in_err-answer g c =
-    record { promise = promise; pinned = pinned; handed_over = made_err c.from_residual-in-err-answer.result _ c.from_residual-in-err-answer.ensures.0 }
+    record { promise = promise; pinned = pinned; handed_over = made_err c.from_residual-in_err-answer.result _ c.from_residual-in_err-answer.ensures.0 }
 
 pub returns : goal.returns
 returns g c =

@@ -83,7 +83,7 @@ returns-in_err-push g c =
     let all = subst F first more in
     record {
       net = c.perform.ensures.net ∙ inv.0;
-      performed = cases_err c.from_residual-in-err-push.result (λ said. AllMade N s₀ (map call_of calls) (map said_of (vec_items said)) s') (SomeMade N s₀ (map call_of calls) s') c.from_residual-in-err-push.ensures.0
+      performed = cases_err c.from_residual-in_err-push.result (λ said. AllMade N s₀ (map call_of calls) (map said_of (vec_items said)) s') (SomeMade N s₀ (map call_of calls) s') c.from_residual-in_err-push.ensures.0
           (some_made N s₀ call_of calls (k + 1) (said ++ (said_of answer ∷ [])) s' s' (omega (arith, c.loop-call-test.true)) all refl);
     }
 

@@ -13,7 +13,7 @@ returns-in_err-check_head c =
     let sheet = c.args.sheet.now in
     let e = c.in_err-check_head.field-0.0 in
     let head = head_refusal sheet (sheet_end sheet) in
-    let said : c.from-residual.result ≡ Err e = search rules in
+    let said : c.from_residual.result ≡ Err e = search rules in
     let checked : Err e ≡ answered head tt =
     sym c.in_err-check_head.was ∙ c.check_head.ensures ∙ ap (λ z. answered (head_refusal sheet z) tt) c.requires.end in
     let some : net_refusal sheet ≡ Some e = or_first head (chained_refusal (net_file sheet)) e (refused_with head tt e checked) in

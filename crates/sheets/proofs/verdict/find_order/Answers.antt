@@ -21,9 +21,9 @@ returns-in_err-load_net c =
     let sheet = c.args.sheet.now in
     let memory = c.args.order.now in
     let e = c.in_err-load_net.field-0.0 in
-    let said : c.from-residual.result ≡ Err e = search rules in
+    let said : c.from_residual.result ≡ Err e = search rules in
     let loaded : Err e ≡ answered (net_refusal sheet) tt = sym c.in_err-load_net.was ∙ c.load_net.ensures.answer in
-    found_unfit sheet memory e c.from-residual.result said
+    found_unfit sheet memory e c.from_residual.result said
     (same_form (net_refusal sheet) (Some e) (kind_unknown sheet) (kind_unknown sheet) (unlawful (start_of sheet)) (unlawful (start_of sheet)) (refused_with (net_refusal sheet) tt e loaded) refl refl)
 
 pub returns-then-byte_at-gt-AT_LEAST : goal.returns-then-byte_at-gt-AT_LEAST
@@ -52,9 +52,9 @@ returns-in_err-board c =
     ∙ ap (λ n. below n (fours sheet c.parts_of-parts.result.starts)) places
     ∙ ap (λ n. below (chained_places sheet) (fours sheet n)) c.parts_of-parts.ensures.starts in
     let e = c.in_err-board.field-0.0 in
-    let said : c.from-residual-in-err-board.result ≡ Err e = search rules in
+    let said : c.from_residual-in_err-board.result ≡ Err e = search rules in
     let broken = c.in_err-board.ensures in
-    found_unfit sheet memory BoardRowUnfit c.from-residual-in-err-board.result (said ∙ ap Err broken.1)
+    found_unfit sheet memory BoardRowUnfit c.from_residual-in_err-board.result (said ∙ ap Err broken.1)
     (same_form (net_refusal sheet) None (kind_unknown sheet) false (unlawful (start_of sheet)) true net kind (sym (ap unlawful starts) ∙ broken.0))
 
 pub resume_sheet-requires : goal.resume_sheet-requires
