@@ -8,7 +8,7 @@ use crate::net_file::NetFile;
 use crate::piles::SecondBoard;
 use crate::words::{code, words};
 use anyhow::anyhow;
-use handovers::calls::Call;
+use handovers::sitting_calls::Call;
 use std::alloc::Global;
 
 /// How many entries memory has before a line says another number: as many as any order has, and as many

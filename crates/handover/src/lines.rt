@@ -2,7 +2,7 @@
 use crate::faults::Fault;
 use crate::words::{number_of, numbers_of, only_number};
 use boards::board::LAST_PLACE;
-use handovers::calls::{Call, Request};
+use handovers::sitting_calls::{Call, Request};
 use std::alloc::Global;
 
 /// How many blocks a step puts down at a place.

@@ -4,8 +4,8 @@ ghost use Rattle.theory.specs.Laws.{AgreeBelow};
 
 use answers::{Cause, Finding};
 use boards::board::Board;
-use handovers::calls::Answer;
 use handovers::hand_over::HandOver;
+use handovers::sitting_calls::Answer;
 use nets::net::Net;
 use std::{fmt, io};
 

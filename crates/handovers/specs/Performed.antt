@@ -7,11 +7,11 @@ use Rattle.answers.specs.Calls.{answer_to, answers_to, after_call, after_calls}
 use Rattle.answers.specs.Calls.Call.{fire, resume, survey}
 use Rattle.answers.specs.Calls.Answer.{refused, fired_once, order_written, findings_listed}
 use Rattle.checks.specs.Held.{target_of}
-use Rattle.handovers.specs.declared.calls.Request.{Request}
-use Rattle.handovers.specs.declared.calls.Call.{Call}
-use Rattle.handovers.specs.declared.calls.Call.TheVariants.{Fire, Resume, Survey}
-use Rattle.handovers.specs.declared.calls.Answer.{Answer}
-use Rattle.handovers.specs.declared.calls.Answer.TheVariants.{Refused, Fired, Order, Findings}
+use Rattle.handovers.specs.declared.sitting_calls.Request.{Request}
+use Rattle.handovers.specs.declared.sitting_calls.Call.{Call}
+use Rattle.handovers.specs.declared.sitting_calls.Call.TheVariants.{Fire, Resume, Survey}
+use Rattle.handovers.specs.declared.sitting_calls.Answer.{Answer}
+use Rattle.handovers.specs.declared.sitting_calls.Answer.TheVariants.{Refused, Fired, Order, Findings}
 
 -- the call that a value stands for
 abbrev pub call_of : Call → answers.Call

@@ -8,8 +8,8 @@ ghost use Rattle.handovers.specs.HandedOver.{counters_of, HandedOver};
 ghost use Rattle.handovers.specs.Performed.{call_of, said_of, Made};
 ghost use Rattle.theory.specs.Rows.{at};
 
-use crate::calls::{Answer, Call, Request};
 use crate::perform::{perform, perform_all};
+use crate::sitting_calls::{Answer, Call, Request};
 use boards::board::Board;
 use calls::all_counts;
 use nets::net::Net;

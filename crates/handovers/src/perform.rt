@@ -3,7 +3,7 @@ ghost use Rattle.checks.specs.Held.{held};
 ghost use Rattle.handovers.specs.Performed.{call_of, said_of, Performed, AllMade, SomeMade};
 ghost use Rattle.std.specs.Prelude.{◌≡◌, map, MatchResult};
 
-use crate::calls::{Answer, Call, Request};
+use crate::sitting_calls::{Answer, Call, Request};
 use answers::{Cause, Finding};
 use boards::board::Board;
 use checks::Target;

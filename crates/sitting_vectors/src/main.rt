@@ -2,8 +2,8 @@
 mod digests;
 mod performed;
 mod rows;
+mod summary;
 mod table;
-mod totals;
 
 use anyhow::anyhow;
 use boards::board::Board;

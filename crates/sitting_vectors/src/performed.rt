@@ -1,8 +1,8 @@
 //! The calls of a sitting, made with memory that is filled beforehand, and compared with the table.
 use crate::digests::Digest;
 use crate::rows::{Request, Row};
+use crate::summary::Kind;
 use crate::table::Table;
-use crate::totals::Kind;
 use answers::{Cause, Finding};
 use boards::board::Board;
 use calls::{Answer, all_counts, answer_of};

@@ -1,7 +1,7 @@
 //! The table, and how far its lines agree with what is answered here.
 use crate::rows;
 use crate::rows::Row;
-use crate::totals::Totals;
+use crate::summary::Totals;
 use calls::Answer;
 use std::alloc::Global;
 use std::io;
