@@ -2,7 +2,7 @@
 use Rattle.std.proofs.Common.{◌≡◌, List, [], ◌∷◌, ◌++◌, refl, ap}
 use Rattle.theory.specs.Nets.{NetMeaning}
 use Rattle.answers.specs.States.{State}
-use Rattle.answers.specs.Calls.{Call, Answer, after_call, answer_to, after_calls, answers_to}
+use Rattle.answers.specs.Calls.{Call, after_call, answer_to, after_calls, answers_to}
 
 pub after_one_more : (N : NetMeaning) (s : State) (calls : List Call) (c : Call) →
     after_calls N s (calls ++ (c ∷ [])) ≡ after_call N (after_calls N s calls) c

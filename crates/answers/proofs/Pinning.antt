@@ -1,14 +1,14 @@
 -- Whatever has the clauses of the promise is what the definitions give.
-use Rattle.std.proofs.Common.{◌≡◌, ℕ, ◌<◌, ◌⊎◌, List, [], ◌∷◌, ◌++◌, map, Some, None, Option, sym, refl, ◌∙◌, ap₂, inl, inr, arith}
+use Rattle.std.proofs.Common.{◌≡◌, ℕ, ◌⊎◌, List, [], ◌∷◌, ◌++◌, map, Some, None, Option, sym, refl, ◌∙◌, ap₂, inl, inr, arith}
 use Rattle.refusals.specs.declared.Refusal.{Refusal}
-use Rattle.theory.specs.Nets.{NetMeaning, NetLaw}
+use Rattle.theory.specs.Nets.{NetMeaning}
 use Rattle.theory.specs.Rows.{at}
 use Rattle.theory.specs.Firing.{Marking}
 use Rattle.theory.specs.Tallies.{Tally}
 use Rattle.theory.specs.Orders.{Earlier}
 use Rattle.theory.proofs.FirstOrder.{earlier_one_way}
 use Rattle.answers.specs.declared.Finding.{Finding}
-use Rattle.answers.specs.States.{State, Target}
+use Rattle.answers.specs.States.{Target}
 use Rattle.answers.specs.Answers.{the_order, fire_refusal, resume_refusal}
 use Rattle.answers.specs.Findings.{findings, short_finding, cut_off_finding, missed_finding, survey_refusal}
 use Rattle.answers.specs.Reasons.{Among, Rising, Exactly, AllFound}

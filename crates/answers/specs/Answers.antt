@@ -1,5 +1,5 @@
 -- What fire and resume answer: the refusal, or the order and what the sitting holds afterwards.
-use Rattle.std.specs.Prelude.{ℕ, ◌+◌, ◌-◌, Bool, cond, not, ◌&&◌, List, [], ◌∷◌, ◌++◌, length, drop, Some, None, Ok, Err, Option, Result, ◌==◌, nat_le, nat_lt}
+use Rattle.std.specs.Prelude.{ℕ, ◌+◌, ◌-◌, Bool, cond, not, ◌&&◌, List, [], ◌∷◌, ◌++◌, length, drop, Some, None, Option, Result, ◌==◌, nat_le, nat_lt}
 use Rattle.std.specs.Option.{option_or, option_map}
 use Rattle.refusals.specs.Answered.{answered}
 use Rattle.refusals.specs.declared.Refusal.{Refusal}

@@ -1,4 +1,6 @@
 //! Answers: what fire, resume and survey answer and leave, as definitions, and the promise over them.
+#![tactic(auto)]
+
 ghost use Rattle.answers.specs.Cases.{CasesHold};
 ghost use Rattle.answers.specs.Findings.{number_of};
 ghost use Rattle.answers.specs.Pinned.{Pinned};

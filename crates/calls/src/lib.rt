@@ -1,5 +1,7 @@
 //! Calls as values, made on any board, and all 64 counts of any board.
-ghost use Rattle.std.specs.Prelude.{◌≡◌, ℕ, Some, slice_index};
+#![tactic(auto)]
+
+ghost use Rattle.std.specs.Prelude.{◌≡◌, ℕ, ◌<◌, Some, slice_index};
 ghost use Rattle.calls.specs.Calls.{Performed, answered, shown_answer};
 
 use boards::board::{Board, LAST_PLACE, PLACES};
@@ -38,7 +40,8 @@ pub fn perform<B: Board>(board: &mut B, call: Call) -> Answer
 
 /// The counts of the 64 places.
 pub fn all_counts<B: Board>(board: &B) -> [u32; PLACES]
-    ensures answer { (p : ℕ) → slice_index result p ≡ B.counts board.now p }
+    ensures answer { (p : ℕ) → p < 64 → slice_index result p ≡ B.counts board.now p }
+    ensures everywhere { (p : ℕ) → slice_index result p ≡ B.counts board.now p }
 {
     let mut counts = [0u32; PLACES];
     for place in 0..=LAST_PLACE {

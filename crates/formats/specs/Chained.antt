@@ -60,7 +60,17 @@ chain_empty file t = first_arc file t == 0
 abbrev pub chained_end : List ℕ → ℕ
 chained_end file = 4 + 3 * chained_steps file + 4 * chained_arcs file
 
--- the first fault of the head, and of the length where the file is to have so many bytes
+-- the first fault of the head and the length
+abbrev pub chained_head_refusal : List ℕ → Option Refusal
+chained_head_refusal file =
+    first_refusal
+    (fault (nat_lt (length file) 4) WrongLength
+    ∷ fault (chained_places file == 0 || nat_lt 64 (chained_places file)) PlacesOutOfRange
+    ∷ fault (nat_lt 128 (chained_steps file) || nat_lt 1023 (chained_arcs file)) TooManyStepsOrArcs
+    ∷ fault (not (length file == 4 + 3 * chained_steps file + 4 * chained_arcs file)) WrongLength
+    ∷ [])
+
+-- the same where the file, a net with more behind it, is to have so many bytes
 abbrev pub head_refusal : List ℕ → ℕ → Option Refusal
 head_refusal file end =
     first_refusal
@@ -69,10 +79,6 @@ head_refusal file end =
     ∷ fault (nat_lt 128 (chained_steps file) || nat_lt 1023 (chained_arcs file)) TooManyStepsOrArcs
     ∷ fault (not (length file == end)) WrongLength
     ∷ [])
-
--- the first fault of the head and the length
-abbrev pub chained_head_refusal : List ℕ → Option Refusal
-chained_head_refusal file = head_refusal file (chained_end file)
 
 -- the first fault of the steps and arcs
 abbrev pub chained_rows_refusal : List ℕ → Option Refusal

@@ -1,4 +1,6 @@
 //! Lines: the line of a verdict, written into lent text memory.
+#![tactic(auto)]
+
 ghost use Rattle.lines.specs.Lines.{words, ok_line, no_line, LineWritten};
 
 mod numbers;

@@ -10,7 +10,7 @@ pub fn byte_at(file: &[u8], i: usize) -> u8
 }
 
 /// The number in two bytes, the high one first.
-pub fn two_at(file: &[u8], i: usize) -> u16
+pub fn pair_at(file: &[u8], i: usize) -> u16
     ensures { result ≡ two_bytes file.now i }
 {
     if i >= file.len() {
@@ -27,5 +27,5 @@ pub fn four_at(file: &[u8], i: usize) -> u32
         return 0;
     }
     let rest = &file[i..];
-    65536 * two_at(rest, 0) as u32 + two_at(rest, 2) as u32
+    65536 * pair_at(rest, 0) as u32 + pair_at(rest, 2) as u32
 }

@@ -4,7 +4,7 @@ ghost use Rattle.formats.proofs.ChainedLaw.{chained_lawful};
 ghost use Rattle.formats.specs.Chained.{chained_steps, chained_arcs, first_arc, arc_begin, arc_place, arc_weight, arc_next, next_fits, chained_step_unfit, arc_unfit, chain_empty, chain_yield, chained_end, head_refusal, chained_head_refusal, chained_rows_refusal, chained_refusal, chained_net};
 ghost use Rattle.refusals.specs.Answered.{answered};
 
-use crate::bytes::{byte_at, two_at};
+use crate::bytes::{byte_at, pair_at};
 use crate::net::Net;
 use refusals::Refusal;
 use searches::{Test, least_below};
@@ -31,14 +31,14 @@ const ONE_PLACE: [u8; 4] = [1, 0, 0, 0];
 fn arcs(file: &[u8]) -> u16
     ensures { result ≡ chained_arcs file.now }
 {
-    two_at(file, 2)
+    pair_at(file, 2)
 }
 
 /// The arc with which the chain of a step begins; 0 for none.
 fn first_arc(file: &[u8], step: u16) -> u16
     ensures { result ≡ first_arc file.now step }
 {
-    two_at(file, 5 + 3 * step as usize)
+    pair_at(file, 5 + 3 * step as usize)
 }
 
 /// Where the bytes of an arc begin; arcs are numbered from 1.
@@ -67,7 +67,7 @@ fn weight_of(file: &[u8], arc: u32) -> u8
 fn next_of(file: &[u8], arc: u32) -> u16
     ensures { result ≡ arc_next file.now arc }
 {
-    two_at(file, begin(file, arc) + 2)
+    pair_at(file, begin(file, arc) + 2)
 }
 
 /// Whether the arc ends its chain, or goes on to a later arc at a higher place.
@@ -127,7 +127,7 @@ pub fn file_end(file: &[u8]) -> usize
 }
 
 /// The checks of the head, and of the length where the file is to have so many bytes.
-pub fn check_head(file: &[u8], end: usize) -> Result<(), Refusal>
+pub fn check_head_to(file: &[u8], end: usize) -> Result<(), Refusal>
     ensures { result ≡ answered (head_refusal file.now end) tt }
 {
     if file.len() < HEAD {
@@ -147,10 +147,10 @@ pub fn check_head(file: &[u8], end: usize) -> Result<(), Refusal>
 }
 
 /// The checks of the head and the length of a file that has no more than a net.
-fn check_head_alone(file: &[u8]) -> Result<(), Refusal>
+fn check_head(file: &[u8]) -> Result<(), Refusal>
     ensures { result ≡ answered (chained_head_refusal file.now) tt }
 {
-    check_head(file, file_end(file))
+    check_head_to(file, file_end(file))
 }
 
 /// The checks of the steps and arcs; the first that fails decides.
@@ -201,7 +201,7 @@ impl<'a> ChainedNet<'a> {
         ensures answer { result ≡ answered (chained_refusal file.now) tt }
         ensures after { self.new.file.now ≡ (if is_ok result then file.now else self.old.file.now) }
     {
-        check_head_alone(file)?;
+        check_head(file)?;
         check_rows(file)?;
         self.file = file;
         Ok(())

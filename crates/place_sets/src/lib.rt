@@ -1,4 +1,6 @@
 //! Place sets: a set of places 0 to 63 as the 64 flags of one word.
+#![tactic(auto)]
+
 ghost use Rattle.std.specs.Prelude.{◌≡◌, ℕ, ◌^◌, ◌<◌, false, not, ◌&&◌, ◌||◌, Decides, MatchOption, ◌==◌, nat_lt};
 ghost use Rattle.place_sets.specs.Flags.{has, first_place, Empty, IsFirst};
 

@@ -6,7 +6,7 @@ ghost use Rattle.sheets.specs.Verdicts.{net_refusal};
 ghost use Rattle.std.specs.Prelude.{◌≡◌, Ok};
 
 use nets::bytes::byte_at;
-use nets::chained::{ChainedNet, check_head, file_end};
+use nets::chained::{ChainedNet, check_head_to, file_end};
 use refusals::Refusal;
 
 /// Where the parts behind the net begin, and where the sheet ends.
@@ -48,7 +48,7 @@ pub(crate) fn load_net<'a>(
     ensures answer { result ≡ answered (net_refusal sheet.now) tt }
     ensures after { result ≡ Ok tt → net.new.file.now ≡ net_file sheet.now }
 {
-    check_head(sheet, parts.end)?;
+    check_head_to(sheet, parts.end)?;
     let end = parts.starts;
     net.load(&sheet[0..end])
 }

@@ -3,7 +3,7 @@ ghost use Rattle.std.specs.Prelude.{◌≡◌, ℕ, ◌^◌, ◌<◌, ◌≤◌,
 ghost use Rattle.sheets.specs.Parts.{fours, twos, below};
 ghost use Rattle.theory.specs.Rows.{at};
 
-use nets::bytes::{four_at, two_at};
+use nets::bytes::{four_at, pair_at};
 
 /// So many four-byte numbers that begin at a byte, and zeros behind them.
 pub(crate) fn read_fours(sheet: &[u8], begin: usize, count: u8) -> [u32; 64]
@@ -28,7 +28,7 @@ pub(crate) fn read_twos(sheet: &[u8], begin: usize, count: u16) -> [u16; 128]
 {
     let mut row = [0; 128];
     for step in 0..count as usize {
-        row[step] = two_at(sheet, begin + 2 * step);
+        row[step] = pair_at(sheet, begin + 2 * step);
     }
     row
 }

@@ -1,5 +1,5 @@
 -- The turns of a loop that fills slots from the highest down: those from i on are done.
-use Rattle.std.proofs.Common.{◌≡◌, ℕ, ◌+◌, ◌<◌, ◌≤◌, List, [], ◌∷◌, ◌++◌, length, get_or, take, drop, set, sym, refl, ap, ◌∙◌, append_assoc, arith}
+use Rattle.std.proofs.Common.{◌≡◌, ℕ, ◌+◌, ◌<◌, ◌≤◌, List, [], ◌∷◌, ◌++◌, length, get_or, take, drop, set, sym, ap, ◌∙◌, append_assoc, arith}
 use Rattle.std.proofs.lemmas.List.{take_more, drop_more, drop_all, take_all, append-nil, take-append-drop, length-take-le, get_or_at, set_at}
 use Rattle.slot_board.specs.Slots.{occurs, filled}
 use Rattle.slot_board.proofs.Filled.{filled_none, filled_here, filled_block, filled_front}

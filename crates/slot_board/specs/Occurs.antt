@@ -1,10 +1,10 @@
 -- How many slots hold a number.
 use Rattle.std.specs.Prelude.{◌≡◌, ℕ, zero, suc, ◌+◌, ◌<◌, ◌≤◌, cond, List, [], ◌∷◌, length, drop, replicate, ◌==◌, ◌≢◌, slice_index, slice_set, refl}
-use Rattle.std.proofs.Common.{sym, ap, ◌∙◌, ⊎_elim, arith, add-one}
+use Rattle.std.proofs.Common.{◌∙◌, ⊎_elim, arith}
 use Rattle.std.proofs.lemmas.List.{at_drop_more, at_drop_all}
 use Rattle.std.proofs.lemmas.Bool.{cases_eq, eq-eqb, ne_eqb, cond-true, cond-false}
 use Rattle.theory.specs.Sums.{sum_to}
-use Rattle.theory.proofs.SumLaws.{sum_to_add, sum_to_none, sum_to_same}
+use Rattle.theory.proofs.SumLaws.{sum_to_add, sum_to_none}
 use Rattle.slot_board.specs.Slots.{occurs, counts_of}
 
 -- 1 where the slot holds the number

@@ -1,4 +1,6 @@
 //! The slot board: 4,096 slots, each empty or with one block of a place.
+#![tactic(auto)]
+
 ghost use Rattle.std.specs.Prelude.{◌≡◌, ℕ, ◌+◌, ◌≤◌, length, replicate, MatchBool, MatchOption, OnOk, slice_index};
 ghost use Rattle.boards.specs.Boards.{TakeSays, PutSays};
 ghost use Rattle.slot_board.specs.Slots.{occurs, counts_of, lowest_with, slots_after_take, slots_after_put};

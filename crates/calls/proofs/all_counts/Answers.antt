@@ -1,4 +1,4 @@
-use Rattle.std.proofs.Common.{◌≡◌, ◌<◌, ◌≢◌, length, sym, ◌∙◌, ⊎_elim, arith, length-set, get_or-set_other, get_or-set_same, below_more}
+use Rattle.std.proofs.Common.{ℕ, ◌<◌, ◌≢◌, length, sym, ◌∙◌, ⊎_elim, arith, length-set, get_or-set_other, get_or-set_same, below_more}
 use Rattle.std.proofs.lemmas.List.{get_or_past}
 use Rattle.std.proofs.lemmas.Bool.{cases_lt}
 use Rattle.calls.proofs.all_counts.Goals as goal
@@ -14,10 +14,12 @@ loop-place-preserved g c =
 pub returns : goal.returns
 returns g c =
     let row = c.loop-place.counts in
+    let read = λ (p : ℕ) (h : p < 64). c.loop-place.invariant.1 p (omega arith) in
     record {
-      answer = λ p.
+      answer = read;
+      everywhere = λ p.
           ⊎_elim
-          (λ (h : p < 64). c.loop-place.invariant.1 p (omega arith))
+          (read p)
           (λ h. get_or_past row p 0 (omega (arith, c.loop-place.invariant.0)) ∙ sym (g.met.B.Board.outside c.args.board.now p (omega arith)))
           (cases_lt p 64);
     }

@@ -1,4 +1,4 @@
-use Rattle.std.proofs.Common.{get_or, ◌∙◌, arith}
+use Rattle.std.proofs.Common.{get_or, arith}
 use Rattle.slot_board.specs.Occurs.{is_same, is_other, occurs_drop_more, occurs_drop_all}
 use Rattle.slot_board.proofs.count_of.Goals as goal
 use Rattle.slot_board.proofs.count_of.Goals.{then-slot-held, else-slot-held}

@@ -1,5 +1,5 @@
 use Rattle.std.proofs.Common.{◌≡◌, take}
-use Rattle.lines.specs.Lines.{numbers, Appends}
+use Rattle.lines.specs.Lines.{Appends}
 use Rattle.lines.proofs.numbers.add_bytes.Given as goal
 
 -- so much of it is added

@@ -17,4 +17,4 @@ returns c =
     let i = c.args.i in
     let first : get_or file (i + 0) 0 ≡ get_or file i 0 = ap (λ k. get_or file k 0) (add-zero i) in
     let last : get_or file (i + 3) 0 ≡ get_or file (i + 2 + 1) 0 = ap (λ k. get_or file k 0) (omega arith) in
-    omega (arith, c.two_at.ensures, c.two_at-2.ensures, rest_at file i 0, rest_at file i 1, rest_at file i 2, rest_at file i 3)
+    omega (arith, c.pair_at.ensures, c.pair_at-2.ensures, rest_at file i 0, rest_at file i 1, rest_at file i 2, rest_at file i 3)

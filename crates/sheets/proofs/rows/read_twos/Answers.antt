@@ -11,7 +11,7 @@ loop-step-preserved c =
     let i = c.loop-step.step in
     let row = c.loop-step.row in (
       length-set row i _ ∙ c.loop-step.invariant.0,
-      filled_more row (twos c.args.sheet.now c.args.begin) i _ (omega (arith, c.loop-step.invariant.0, c.loop-step-test.true, c.requires.count)) c.two_at.ensures c.loop-step.invariant.1,
+      filled_more row (twos c.args.sheet.now c.args.begin) i _ (omega (arith, c.loop-step.invariant.0, c.loop-step-test.true, c.requires.count)) c.pair_at.ensures c.loop-step.invariant.1,
     )
 
 pub returns : goal.returns

@@ -1,6 +1,6 @@
 use Rattle.std.proofs.Common.{◌+◌, arith}
 use Rattle.std.proofs.lemmas.List.{get_or_past}
-use Rattle.nets.proofs.bytes.two_at.Goals as goal
+use Rattle.nets.proofs.bytes.pair_at.Goals as goal
 
 pub returns-then-i-file : goal.returns-then-i-file
 returns-then-i-file c =
