@@ -18,7 +18,7 @@ from judge import judge, verdict
 from make_net_table import Chance
 from random_sheets import any_sheet
 
-BUILT = Path(__file__).resolve().parent.parent / "target" / "bin" / "judge"
+BUILT = Path(__file__).resolve().parent.parent / "crates" / "judge" / "out" / "judge"
 BATCH = 400
 MOST_SECONDS = 300  # for one batch
 VERDICTS = ["ok", *(f"no {number}" for number in (*range(1, 14), 19))]

@@ -16,7 +16,7 @@ from typing import NamedTuple
 
 import run_handover
 
-BUILT = Path(__file__).resolve().parent.parent / "target" / "bin" / "handover"
+BUILT = Path(__file__).resolve().parent.parent / "crates" / "handover" / "out" / "handover"
 WORDS = ("0", "1", "x", "", "-1", "+2", "999", "70000", "5000000000", "at", "exact", "fire", "#", ",")
 
 

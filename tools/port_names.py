@@ -2,8 +2,10 @@
 """Brings the names of this repository's own definitions and lemmas to today's spelling, once.
 
 Words, lemmas, fields and constructors get snake case, types, facts and records upper camel case; the
-names of goals and steps, which the toolchain makes, and the library's names stay as they are. Run it at the top of
-the repository, right after the toolchain's own port script; `--list` only prints the renamings.
+names of goals and steps, which the toolchain makes, and the library's names stay as they are. In the
+clauses of what is generic, a member of a bound goes by the parameter's name, as `B.counts`. Run it at
+the top of the repository, right after the toolchain's own port script; `--list` only prints the
+renamings.
 """
 import glob, re, sys
 
@@ -11,6 +13,17 @@ IDENT = r"[^\s(){}\[\],;:.|]+"
 NAME = re.compile(r"[A-Za-z][\w'-]*[\w']|[A-Za-z]")
 # A fact whose plain camel case would be the name of a refusal's or a cause's variant.
 BY_HAND = {'Cut-off': 'IsCutOff'}
+# Two words that have the name of a tactic, by the crate that defines them and the crates that cite them.
+TACTICS = {'first_of': {'formats': 'first_refusal', 'sheets': 'first_refusal', 'nets': 'first_refusal', 'place_sets': 'first_place'}}
+# The members of each bound, with the letter that its parameter has here and what they are asked of.
+MEMBERS = [
+    (r"(?<![.\w])(counts|spare) ((?:board|self|sitting|below|second|first)\b[\w.]*)", r"B.\1 \2"),
+    (r"(?<![.\w])meaning (\w)", r"N.meaning \1"),
+    (r"(?<![.\w])passes (test)", r"T.passes \1"),
+    (r"(?<![.\w])value (terms)", r"T.value \1"),
+    (r"(?<![.\w])at (finds)", r"F.at \1"),
+    (r"\b([A-Z])\.(?:Board|Net)\.(counts|spare|meaning)", r"\1.\2"),
+]
 MADE = ('goal.', 'given.', 'need.')
 
 
@@ -119,6 +132,25 @@ def turn_rt(text, table):
     return '\n'.join(out)
 
 
+def turn_members(text):
+    """The members of bounds in clauses outside traits, whose own text names its members plainly."""
+    out, trait = [], False
+    for line in text.split('\n'):
+        trait = (trait or re.match(r"(pub )?trait ", line) is not None) and not line.startswith('}')
+        if re.match(r"\s*(requires|ensures)", line) and not trait:
+            for old, new in MEMBERS:
+                line = re.sub(old, new, line)
+        out.append(line)
+    return '\n'.join(out)
+
+
+def turn_tactics(text, crate):
+    for old, names in TACTICS.items():
+        if crate in names:
+            text = re.sub(rf"\b{old}\b(?! \(Prim)", names[crate], text)
+    return text
+
+
 def turn_page(text, table):
     return re.sub(r"`[^`\n]+`", lambda m: turned(m.group(0), {k: v for k, v in table.items() if '-' in k or not k.islower()}), text)
 
@@ -130,9 +162,9 @@ def main():
             print(old, new)
         return
     for f in antt_files():
-        rewrite(f, turn_antt, table)
+        rewrite(f, lambda text, names: turn_tactics(turn_antt(text, names), f.split('/')[1]), table)
     for f in sorted(glob.glob('crates/*/src/**/*.rt', recursive=True)):
-        rewrite(f, turn_rt, table)
+        rewrite(f, lambda text, names: turn_members(turn_tactics(turn_rt(text, names), f.split('/')[1])), table)
     for f in ['README.md'] + sorted(glob.glob('docs/*.md')):
         rewrite(f, turn_page, table)
 
