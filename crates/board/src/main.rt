@@ -1,4 +1,6 @@
 //! Reads a board script, makes its calls on a pile, and prints each answer and what it changed.
+#![tactic(auto)]
+
 mod desk;
 mod lines;
 

@@ -1,4 +1,6 @@
 //! Compares the boards and layers with a table of calls that another implementation answered.
+#![tactic(auto)]
+
 mod rows;
 mod table;
 

@@ -67,7 +67,7 @@ impl Board for CountBoard {
 
     ghost outside = { λ b p h. get_or_past b.counts p 0 (omega (arith, b.long)) };
 
-    ghost bounded = { first_of (Prim.search rules, Prim.grind (arith, Self.row.coded.inj)) };
+    ghost bounded = { Prim.search rules };
 
     fn count(&self, place: u8) -> u32 {
         if place > LAST_PLACE {

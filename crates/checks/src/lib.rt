@@ -1,4 +1,6 @@
 //! Checks: whether the rows of a call fit its net, and whether its sizes are within their limits.
+#![tactic(auto)]
+
 ghost use Rattle.std.specs.Prelude.{◌≡◌, ℕ};
 ghost use Rattle.answers.specs.Answers.{rows_fit, size_refusal};
 ghost use Rattle.answers.specs.Findings.{survey_refusal};

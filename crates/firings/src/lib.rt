@@ -1,4 +1,6 @@
 //! Firings: the firing rule carried out on a board, by one take and one put for each place of the yields.
+#![tactic(auto)]
+
 ghost use Rattle.std.specs.Prelude.{◌≡◌, ℕ, ◌+◌, ◌-◌, ◌≤◌};
 ghost use Rattle.answers.specs.States.{yields_of};
 ghost use Rattle.firings.specs.Moves.{can_move, Moved};

@@ -14,7 +14,7 @@ use Rattle.answers.specs.Answers.{unless, written, resume_refusal, resume_answer
 use Rattle.answers.specs.Findings.{findings, survey_refusal, survey_answer, findings_memory}
 use Rattle.answers.specs.Calls.{Call, Answer, said, answer_to, answers_to, after_call, after_calls}
 use Rattle.checks.specs.Held.{held, target_of}
-use Rattle.answers.specs.Calls.Call.{fire, resume, survey}
+use Rattle.answers.specs.Calls.Call.{resume, survey}
 use Rattle.answers.specs.Calls.Answer.{refused, order_written, findings_listed}
 use Rattle.sittings.proofs.Resumed.{refused_with, accepted_with}
 use Rattle.answers.proofs.OneMore.{after_one_more, answers_one_more}

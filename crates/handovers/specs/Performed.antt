@@ -1,5 +1,5 @@
 -- Calls made on a sitting: which they are, what is said to them, and what they leave.
-use Rattle.std.specs.Prelude.{◌≡◌, ℕ, ◌≤◌, List, map, length, take, Ok, Err, vec_items, Result}
+use Rattle.std.specs.Prelude.{◌≡◌, ℕ, ◌≤◌, List, length, take, Ok, Err, vec_items, Result}
 use Rattle.theory.specs.Nets.{NetMeaning}
 use Rattle.answers.specs.States.{State}
 use Rattle.answers.specs.Calls as answers
@@ -7,7 +7,6 @@ use Rattle.answers.specs.Calls.{answer_to, answers_to, after_call, after_calls}
 use Rattle.answers.specs.Calls.Call.{fire, resume, survey}
 use Rattle.answers.specs.Calls.Answer.{refused, fired_once, order_written, findings_listed}
 use Rattle.checks.specs.Held.{target_of}
-use Rattle.handovers.specs.declared.sitting_calls.Request.{Request}
 use Rattle.handovers.specs.declared.sitting_calls.Call.{Call}
 use Rattle.handovers.specs.declared.sitting_calls.Call.TheVariants.{Fire, Resume, Survey}
 use Rattle.handovers.specs.declared.sitting_calls.Answer.{Answer}

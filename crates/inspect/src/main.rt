@@ -1,4 +1,6 @@
 //! Shows what a net file means, or why it is refused.
+#![tactic(auto)]
+
 mod table;
 
 use anyhow::anyhow;

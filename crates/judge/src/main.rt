@@ -1,4 +1,6 @@
 //! Judges exam sheets: the one on standard input, or each file that is named.
+#![tactic(auto)]
+
 use anyhow::anyhow;
 use sheets::judge;
 use std::io::{Read, Write};

@@ -41,9 +41,9 @@ impl<B: Board> Board for Allowance<B> {
 
     ghost spare = { λ s. min s.left (B.Board.spare s.below) };
 
-    ghost outside = { first_of (Prim.search rules, Prim.grind (arith, Self.row.coded.inj)) };
+    ghost outside = { Prim.search rules };
 
-    ghost bounded = { first_of (Prim.search rules, Prim.grind (arith, Self.row.coded.inj)) };
+    ghost bounded = { Prim.search rules };
 
     fn count(&self, place: u8) -> u32 {
         self.below.count(place)

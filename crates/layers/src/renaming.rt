@@ -76,7 +76,7 @@ impl<B: Board> Board for Renaming<B> {
 
     ghost spare = { λ s. B.Board.spare s.below };
 
-    ghost outside = { first_of (Prim.search rules, Prim.grind (arith, Self.row.coded.inj)) };
+    ghost outside = { Prim.search rules };
 
     ghost bounded = { λ b.
         let h = B.Board.counts b.below in

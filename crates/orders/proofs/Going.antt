@@ -1,17 +1,16 @@
 -- An order that is being fired and written: what was fired so far, and what is left.
-use Rattle.std.proofs.Common.{◌≡◌, ℕ, suc, ◌+◌, ◌-◌, ◌*◌, ◌<◌, ◌≤◌, List, [], ◌∷◌, ◌++◌, length, drop, Some, None, Result, sym, refl, ap, ◌∙◌, subst, true≢false, append_assoc, add-one, arith, length-append}
+use Rattle.std.proofs.Common.{◌≡◌, ℕ, ◌+◌, ◌-◌, ◌<◌, ◌≤◌, List, [], ◌∷◌, ◌++◌, length, Some, Result, sym, refl, ap, ◌∙◌, subst, true≢false, append_assoc, arith, length-append}
 use mathlib.Core.Path.{fun_ext}
 use Rattle.std.proofs.lemmas.List.{append-nil}
 use Rattle.refusals.specs.declared.Refusal.{Refusal}
 use Rattle.theory.specs.Nets.{NetMeaning, NetLaw}
 use Rattle.theory.specs.Firing.{Marking, fired, after}
-use Rattle.theory.specs.Sums.{sum_to}
-use Rattle.theory.specs.Tallies.{Tally, Realizable, NoPlaceShort, NoPlaceCutOff, steps_asked}
+use Rattle.theory.specs.Tallies.{Tally, Realizable, steps_asked}
 use Rattle.theory.specs.Orders.{less, Safe}
 use Rattle.theory.specs.Tests.{least, safe, first_order}
 use Rattle.theory.proofs.SumLaws.{le_sum_to}
 use Rattle.theory.proofs.TallySums.{sum_less, total_less}
-use Rattle.theory.proofs.Decided.{done_exactly_if, safe_decided, least_found, none_found}
+use Rattle.theory.proofs.Decided.{done_exactly_if, safe_decided, least_found}
 use Rattle.theory.proofs.FirstOrder.{first_order_goes_on, first_order_ends}
 use Rattle.theory.proofs.Appended.{after_appended}
 use Rattle.answers.specs.States.{yields_of, yields_asked}

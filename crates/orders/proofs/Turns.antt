@@ -1,17 +1,16 @@
 -- One turn of firing the first order: the next step is there, it can be moved, and the order goes on.
-use Rattle.std.proofs.Common.{◌≡◌, ℕ, ◌+◌, ◌-◌, ◌^◌, ◌<◌, ◌≤◌, Bool, true, false, not, ltb, List, length, Some, None, Result, sym, refl, ap, ◌∙◌, ⊎_elim, true≢false, arith}
+use Rattle.std.proofs.Common.{◌≡◌, ℕ, ◌+◌, ◌-◌, ◌<◌, ◌≤◌, Bool, true, false, not, ltb, List, length, Some, None, Result, sym, ap, ◌∙◌, ⊎_elim, true≢false, arith}
 use Rattle.std.proofs.lemmas.Bool.{and_from, lt-ltb, le-ltb}
 use Rattle.refusals.specs.declared.Refusal.{Refusal}
 use Rattle.theory.specs.Nets.{NetMeaning, NetLaw}
-use Rattle.theory.specs.Sums.{sum_to}
 use Rattle.theory.specs.Firing.{Marking, fired}
 use Rattle.theory.specs.Tallies.{Tally, Realizable, NoPlaceCutOff, steps_asked}
-use Rattle.theory.specs.Orders.{less, Safe}
+use Rattle.theory.specs.Orders.{less}
 use Rattle.theory.specs.Tests.{least, safe}
 use Rattle.theory.proofs.SumLaws.{le_sum_to}
 use Rattle.theory.proofs.TallySums.{sum_find}
 use Rattle.theory.proofs.Decided.{done_exactly_if, safe_decided, safe_step_exists, none_found}
-use Rattle.answers.specs.States.{yields_of, yields_asked}
+use Rattle.answers.specs.States.{yields_of}
 use Rattle.boards.specs.Boards.{BoardLaw}
 use Rattle.firings.specs.Moves.{can_move, Moved}
 use Rattle.lists.specs.Lists.{Adds}

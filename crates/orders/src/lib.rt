@@ -1,4 +1,6 @@
 //! Orders: the first order of a tally, fired on a board and written down.
+#![tactic(auto)]
+
 ghost use Rattle.answers.specs.Answers.{resume_refusal};
 ghost use Rattle.checks.specs.Held.{held, target_of};
 ghost use Rattle.orders.specs.Fired.{Fired};

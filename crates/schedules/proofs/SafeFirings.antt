@@ -1,6 +1,6 @@
 -- Which firings are safe, told with at most one search: where no place is cut off, a firing can only lose its own
 -- input place, and that only if it takes the last block there and puts none down.
-use Rattle.std.proofs.Common.{◌≡◌, ℕ, ◌+◌, ◌-◌, ◌<◌, Bool, true, false, cond, ◌&&◌, eqb, ltb, ◌⊎◌, Decides, sym, refl, ap, ◌∙◌, subst, inl, inr, arith}
+use Rattle.std.proofs.Common.{◌≡◌, ℕ, ◌+◌, ◌<◌, Bool, true, false, cond, ◌&&◌, eqb, ltb, ◌⊎◌, Decides, sym, refl, ap, ◌∙◌, subst, inl, inr, arith}
 use Rattle.std.proofs.lemmas.Bool.{cases_eq, cases_Bool, both_ways, ltb-true, lt-ltb, eqb-true, eq-eqb, ne_eqb, and_parts, and_from, and_left, and_right, cond-true, cond-false}
 use Rattle.theory.specs.Sums.{sum_to}
 use Rattle.theory.specs.Nets.{NetMeaning, NetLaw}

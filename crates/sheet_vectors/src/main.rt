@@ -1,5 +1,7 @@
 //! Judges a table of sheets and compares with the lines that stand in it, which a second implementation
 //! wrote. A line is: bytes in hexadecimal, then the sheet's line.
+#![tactic(auto)]
+
 ghost use Rattle.std.specs.Prelude.{◌<◌, IfOk};
 
 use anyhow::anyhow;

@@ -1,11 +1,11 @@
 -- What is found in a sheet, from what its parts are.
-use Rattle.std.proofs.Common.{◌≡◌, ℕ, ◌+◌, ◌*◌, ◌<◌, ◌≤◌, List, length, get_or, take, IfOk, Some, None, Ok, Err, Option, Result, sym, refl, ap, ◌∙◌, subst, arith}
+use Rattle.std.proofs.Common.{◌≡◌, ℕ, ◌+◌, ◌*◌, ◌<◌, ◌≤◌, List, length, get_or, IfOk, Some, None, Ok, Err, Option, Result, sym, ap, ◌∙◌, subst, arith}
 use Rattle.std.specs.Option.{option_or}
 use Rattle.std.proofs.lemmas.List.{get_or-take}
 use Rattle.refusals.specs.Answered.{answered}
 use Rattle.refusals.specs.declared.Refusal.{Refusal}
 use Rattle.theory.specs.Nets.{NetMeaning, NetLaw}
-use Rattle.formats.specs.Chained.{chained_places, chained_steps, chained_arcs}
+use Rattle.formats.specs.Chained.{chained_steps, chained_arcs}
 use Rattle.answers.specs.States.{State, Target}
 use Rattle.answers.specs.Answers.{unless, written, resume_refusal, the_order, resume_answer, order_memory}
 use Rattle.answers.proofs.Unless.{unless_refused}

@@ -1,5 +1,5 @@
 -- What is said of a sheet: why it is refused, or the first order of its tally; and the line.
-use Rattle.std.specs.Prelude.{◌≡◌, ℕ, ◌+◌, ◌≤◌, Bool, not, ◌⊎◌, ◌↔◌, List, [], ◌∷◌, length, take, Some, None, codes, Option, nat_lt}
+use Rattle.std.specs.Prelude.{◌≡◌, ℕ, ◌+◌, Bool, not, ◌⊎◌, ◌↔◌, List, take, Some, None, codes, Option, nat_lt}
 use Rattle.std.specs.Option.{option_or}
 use Rattle.refusals.specs.declared.Refusal.{Refusal}
 use Rattle.refusals.specs.declared.Refusal.TheVariants.{RowsUnfit, BoardRowUnfit}
@@ -7,7 +7,7 @@ use Rattle.theory.specs.Sums.{sum_to}
 use Rattle.theory.specs.Firing.{Marking}
 use Rattle.theory.specs.Orders.{Earlier}
 use Rattle.boards.specs.Boards.{board_limit}
-use Rattle.formats.specs.Checks.{fault, first_refusal}
+use Rattle.formats.specs.Checks.{fault}
 use Rattle.formats.specs.Chained.{head_refusal, chained_refusal}
 use Rattle.answers.specs.States.{State, new_on}
 use Rattle.answers.specs.Answers.{resume_refusal, the_order}

@@ -1,4 +1,6 @@
 //! Sheets: one sheet in, one line out.
+#![tactic(auto)]
+
 ghost use Rattle.lines.specs.Lines.{LineWritten};
 ghost use Rattle.sheets.specs.Verdicts.{sheet_line, Judged};
 

@@ -1,4 +1,6 @@
 //! Compares sittings with a table of calls that another implementation answered.
+#![tactic(auto)]
+
 mod digests;
 mod performed;
 mod rows;

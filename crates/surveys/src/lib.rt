@@ -1,4 +1,6 @@
 //! Surveys: everything that stands in the way of a tally, listed by cause and place.
+#![tactic(auto)]
+
 ghost use Rattle.std.specs.Prelude.{◌≡◌, ℕ, length};
 ghost use Rattle.answers.specs.Findings.{survey_answer, findings_memory};
 ghost use Rattle.checks.specs.Held.{held, target_of};

@@ -1,4 +1,6 @@
 //! Tables: a net held in memory by value, so that each question is one look-up.
+#![tactic(auto)]
+
 pub mod net_table;
 mod reads;
 #[cfg(test)]

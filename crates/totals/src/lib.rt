@@ -1,4 +1,6 @@
 //! Totals: what a tally asks of a net, and the number that it leaves at each place.
+#![tactic(auto)]
+
 pub mod asked;
 pub mod finals;
 mod rows;

@@ -1,5 +1,7 @@
 //! Runs a table of net files through both loads and compares with the answers that stand in it,
 //! which a second implementation gave. A line is: make, bytes in hexadecimal, answer.
+#![tactic(auto)]
+
 ghost use Rattle.std.specs.Prelude.{◌<◌, IfOk};
 
 mod answers;

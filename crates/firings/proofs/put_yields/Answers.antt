@@ -1,7 +1,7 @@
-use Rattle.std.proofs.Common.{◌≡◌, ℕ, ◌+◌, ◌<◌, ◌≤◌, ap, ◌∙◌, arith}
+use Rattle.std.proofs.Common.{◌+◌, ◌<◌, ◌≤◌, ap, ◌∙◌, arith}
 use Rattle.theory.proofs.SumLaws.{sum_to_front}
 use Rattle.boards.specs.Boards.{at}
-use Rattle.firings.proofs.Puts.{PutTo, put_none, put_more, put_all, put_accepted, at_zero}
+use Rattle.firings.proofs.Puts.{put_none, put_more, put_all, put_accepted, at_zero}
 use Rattle.firings.proofs.put_yields.Goals as goal
 use Rattle.firings.proofs.put_yields.Goals.{then-blocks-gt0, else-blocks-gt0}
 

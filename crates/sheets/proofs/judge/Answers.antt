@@ -1,9 +1,9 @@
-use Rattle.std.proofs.Common.{◌≡◌, ℕ, ◌-◌, ◌≤◌, List, length, take, drop, replicate, Some, None, Ok, Err, sym, ap, ◌∙◌, subst, arith, rules}
+use Rattle.std.proofs.Common.{◌≡◌, ℕ, ◌-◌, ◌≤◌, List, length, take, drop, replicate, Some, None, Ok, sym, ap, ◌∙◌, subst, arith, rules}
 use lib.ListN.{length-replicate}
 use Rattle.std.proofs.lemmas.List.{take_at}
 use Rattle.refusals.specs.Answered.{answered}
 use Rattle.answers.specs.Answers.{unless, written}
-use Rattle.lines.specs.Lines.{ok_line, no_line, LineWritten}
+use Rattle.lines.specs.Lines.{ok_line, LineWritten}
 use Rattle.sittings.proofs.Resumed.{refused_with, accepted_with}
 use Rattle.sheets.specs.Verdicts.{sheet_refusal, sheet_order, sheet_line, line_for}
 use Rattle.sheets.proofs.Judging.{judged}

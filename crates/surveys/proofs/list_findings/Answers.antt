@@ -1,11 +1,9 @@
-use Rattle.std.proofs.Common.{◌≡◌, ℕ, ◌<◌, ◌≤◌, Bool, true, false, cond, ◌&&◌, ltb, List, ◌++◌, length, Some, None, Ok, sym, ap, ◌∙◌, subst, arith, rules}
+use Rattle.std.proofs.Common.{◌≡◌, ℕ, ◌<◌, ◌≤◌, Bool, false, ◌&&◌, ltb, ◌++◌, length, Some, None, Ok, sym, ap, ◌∙◌, subst, arith, rules}
 use mathlib.Core.Path.{fun_ext}
 use Rattle.std.proofs.lemmas.Bool.{lt-ltb, cond-true}
 use Rattle.refusals.specs.Answered.{answered}
 use Rattle.theory.specs.Rows.{at}
-use Rattle.theory.specs.Firing.{Marking}
 use Rattle.theory.specs.Tests.{is_short, is_cut_off}
-use Rattle.answers.specs.declared.Finding.{Finding}
 use Rattle.answers.specs.Answers.{unless, written, is_missed}
 use Rattle.answers.specs.Findings.{found, findings, survey_refusal, short_finding, cut_off_finding, missed_finding}
 use Rattle.answers.proofs.Sizes.{survey_fits}

@@ -1,4 +1,4 @@
-use Rattle.std.proofs.Common.{◌≡◌, ◌+◌, ◌-◌, sym, refl, ap, ◌∙◌, arith}
+use Rattle.std.proofs.Common.{◌≡◌, ◌+◌, ◌-◌, sym, ap, ◌∙◌, arith}
 use Rattle.formats.specs.Chained.{chained_arcs, arc_next, chain_yield}
 use Rattle.formats.proofs.Chains.{chain_end, chain_here, chain_next}
 use Rattle.nets.proofs.chained.chain_yield.Goals as goal

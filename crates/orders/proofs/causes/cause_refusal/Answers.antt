@@ -1,4 +1,4 @@
-use Rattle.std.proofs.Common.{◌≡◌, Some, None, sym, refl, ◌∙◌}
+use Rattle.std.proofs.Common.{Some, None, sym, refl, ◌∙◌}
 use Rattle.theory.specs.Rows.{at}
 use Rattle.theory.specs.Tests.{least, is_short, is_cut_off}
 use Rattle.checks.specs.Held.{target_of}

@@ -1,4 +1,4 @@
-use Rattle.std.proofs.Common.{◌≡◌, ℕ, ◌+◌, ◌<◌, length, drop, sym, refl, ap, ◌∙◌, subst, arith, rules}
+use Rattle.std.proofs.Common.{◌≡◌, ℕ, ◌+◌, ◌<◌, length, sym, refl, ap, ◌∙◌, subst, arith, rules}
 use Rattle.theory.specs.Rows.{at}
 use Rattle.theory.specs.Firing.{after}
 use Rattle.theory.specs.Tallies.{steps_asked}

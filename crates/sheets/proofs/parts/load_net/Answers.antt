@@ -1,4 +1,4 @@
-use Rattle.std.proofs.Common.{◌≡◌, ℕ, ◌-◌, true, cond, take, is_ok, Some, None, Ok, Err, sym, refl, ap, ◌∙◌, arith, rules}
+use Rattle.std.proofs.Common.{◌≡◌, ℕ, ◌-◌, cond, take, is_ok, Some, None, Ok, Err, sym, ap, ◌∙◌, arith, rules}
 use Rattle.refusals.specs.Answered.{answered}
 use Rattle.formats.specs.Chained.{head_refusal, chained_refusal}
 use Rattle.answers.proofs.Options.{or_first}

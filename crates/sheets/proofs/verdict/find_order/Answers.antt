@@ -1,4 +1,4 @@
-use Rattle.std.proofs.Common.{◌≡◌, ℕ, min, true, false, not, Some, None, Ok, Err, sym, refl, ap, ◌∙◌, arith, rules}
+use Rattle.std.proofs.Common.{◌≡◌, min, true, false, not, Some, None, Ok, Err, sym, refl, ap, ◌∙◌, arith, rules}
 use mathlib.Core.Path.{fun_ext}
 use Rattle.std.proofs.lemmas.Bool.{lt-ltb, le-ltb}
 use Rattle.refusals.specs.Answered.{answered}
@@ -11,7 +11,7 @@ use Rattle.boards.specs.Rows.{at_place}
 use Rattle.layers.specs.Renamings.{renamed}
 use Rattle.sittings.proofs.Resumed.{refused_with, accepted_with}
 use Rattle.sheets.specs.Parts.{below, fours, net_of, start_of, kind_of, tally_of, target_in}
-use Rattle.sheets.specs.Verdicts.{net_refusal, kind_unknown, unlawful, spare_given, sitting_of}
+use Rattle.sheets.specs.Verdicts.{net_refusal, kind_unknown, unlawful, sitting_of}
 use Rattle.sheets.proofs.Forms.{same_form}
 use Rattle.sheets.proofs.Finding.{like, Resumed, head_kept, found_unfit, found_resumed}
 use Rattle.sheets.proofs.verdict.find_order.Goals as goal

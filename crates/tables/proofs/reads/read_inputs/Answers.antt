@@ -1,4 +1,4 @@
-use Rattle.std.proofs.Common.{◌≡◌, ◌<◌, ◌≢◌, length, ◌∙◌, arith, get_or-set_other, get_or-set_same, rules, below_more}
+use Rattle.std.proofs.Common.{◌≡◌, ◌≢◌, ◌∙◌, arith, get_or-set_other, get_or-set_same, rules, below_more}
 use Rattle.tables.proofs.reads.read_inputs.Goals as goal
 
 pub loop-step-preserved : goal.loop-step-preserved

@@ -1,14 +1,12 @@
-use Rattle.std.proofs.Common.{◌≡◌, ℕ, length, Err, Result, sym, refl, ◌∙◌, subst, arith, rules}
-use mathlib.Core.Path.{fun_ext}
+use Rattle.std.proofs.Common.{◌≡◌, ℕ, length, Err, Result, refl, ◌∙◌, subst, arith, rules}
 use Rattle.refusals.specs.declared.Refusal.{Refusal}
 use Rattle.theory.specs.Nets.{NetMeaning}
-use Rattle.theory.specs.Rows.{at}
 use Rattle.answers.specs.Answers.{resume_refusal}
 use Rattle.answers.proofs.Resumes.{fits_now}
 use Rattle.checks.specs.Held.{held, target_of}
 use Rattle.orders.specs.Fired.{Fired}
 use Rattle.sittings.proofs.DoneRows.{counts_fit, added_total}
-use Rattle.sittings.proofs.Resumed.{accepted_with, refused_resume, accepted_resume}
+use Rattle.sittings.proofs.Resumed.{accepted_with, refused_resume}
 use Rattle.sittings.proofs.sitting.Sitting.resume.Goals as goal
 
 pub returns-in_err-length : goal.returns-in_err-length
