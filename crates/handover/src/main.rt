@@ -1,4 +1,6 @@
 //! Reads a hand-over file, makes its calls and the hand-over, and prints what was said and what is left.
+#![tactic(auto)]
+
 mod day;
 mod faults;
 mod lines;

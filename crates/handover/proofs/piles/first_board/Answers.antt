@@ -10,4 +10,4 @@ none_held zero p = refl
 none_held (suc n) p = omega (arith, none_held n p, cond-false {A = ℕ} (eqb 0 (p + 1)) 1 0 (ne_eqb 0 (p + 1) (λ e. omega (arith, e))))
 
 pub returns-in-Ok : goal.returns-in-Ok
-returns-in-Ok c p h = omega (arith, c.in-Ok.ensures p h, ap (occurs (p + 1)) c.new_board.ensures.slots, none_held 4096 p)
+returns-in-Ok c p h = omega (arith, c.in-Ok.ensures p h, ap (occurs (p + 1)) c.new-board.ensures.slots, none_held 4096 p)
