@@ -10,7 +10,7 @@ use Rattle.schedules.proofs.schedule.Schedule.move_blocks.Goals.{then-count-eq1,
 
 pub returns : goal.returns
 returns g c m x h l i b =
-    let L : LawfulNet = g.N.Net.meaning c.args.net.now in
+    let lawful : LawfulNet = g.N.Net.meaning c.args.net.now in
     let s : Schedule = c.args.self.now in
     let t : ℕ = c.args.step in
     let long : 64 ≤ length c.put_at.new.row = omega arith in
@@ -20,10 +20,10 @@ returns g c m x h l i b =
     c.put_at.ensures
     ∙ ap (λ (p : ℕ). set s.held p c.saturating_sub.result) there
     ∙ ap (set s.held (at s.inputs t)) (c.saturating_sub.ensures ∙ ap (λ (v : ℕ). v - 1) count) in
-    shows_fired L.net L.law m x s h t l i _ refl refl refl refl refl refl b (has c.yields-yields.result.word) c.yields-yields.ensures.table
+    shows_fired lawful.net lawful.law m x s h t l i _ refl refl refl refl refl refl b (has c.yields-yields.result.word) c.yields-yields.ensures.table
     (λ q k.
-    subst (λ (r : List ℕ). at c.add_yields.new.held q ≡ cond (has c.yields-yields.result.word q) (min (at r q + L.net.yields t q) (2 ^ 32 - 1)) (at r q)) row
-    (c.add_yields.ensures q (omega (arith, L.law.few_places))))
+    subst (λ (r : List ℕ). at c.add_yields.new.held q ≡ cond (has c.yields-yields.result.word q) (min (at r q + lawful.net.yields t q) (2 ^ 32 - 1)) (at r q)) row
+    (c.add_yields.ensures q (omega (arith, lawful.law.few_places))))
     (has c.if-count-eq1.others.word)
     (λ q e. elim c.if-count-eq1.branch [
       | then-count-eq1 w ↦

@@ -6,11 +6,11 @@ use Rattle.schedules.proofs.schedule.Schedule.new.Goals as goal
 
 pub returns : goal.returns
 returns g c =
-    let L : LawfulNet = g.N.Net.meaning c.args.net.now in
-    shows_new L.net L.law (at c.args.counts.now) (at c.args.tally.now) _ c.rebuild_all.new.self
+    let lawful : LawfulNet = g.N.Net.meaning c.args.net.now in
+    shows_new lawful.net lawful.law (at c.args.counts.now) (at c.args.tally.now) _ c.rebuild_all.new.self
     (record {
       steps = c.steps.ensures;
-      left = λ t l. c.front-2.ensures t (omega (arith, L.law.few_steps));
+      left = λ t l. c.front-2.ensures t (omega (arith, lawful.law.few_steps));
       inputs = c.inputs_of.ensures;
       yields = c.yields_of.ensures;
     })
