@@ -134,7 +134,7 @@ pub record Exactly (n : ℕ) (P : ℕ → Type 0) (ps : List ℕ) : Type 0 where
   pub rising : Rising ps
   pub exact : (p : ℕ) → Among p ps ↔ ((p < n) × P p)
 
--- a finding for every short place, then for every cut_off place, then for every missed place, and no other
+-- a finding for every short place, then for every cut-off place, then for every missed place, and no other
 pub record AllFound (N : NetMeaning) (m : Marking) (x : Tally) (target : Target) (list : List Finding) : Type 0 where
   pub short_places : List ℕ
   pub cut_off_places : List ℕ

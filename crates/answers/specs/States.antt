@@ -37,7 +37,7 @@ pub record Target : Type 0 where
   pub numbers : List ℕ
   pub kind : ℕ
 
--- an exact target, and an at_least target
+-- an exact target, and an at-least target
 abbrev pub exact : List ℕ → Target
 exact numbers = record { numbers = numbers; kind = 0 }
 

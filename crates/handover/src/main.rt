@@ -9,7 +9,6 @@ mod piles;
 mod report;
 mod words;
 
-use anyhow::anyhow;
 use day::Day;
 use faults::Unfit;
 use handovers::hand_over::hand_over;
@@ -18,6 +17,7 @@ use nets::net::Net;
 use piles::first_board;
 use report::{Outcome, show};
 use std::io;
+use std::process::ExitCode;
 
 /// Makes the calls of a day and its hand-over, and prints what was said and what is left.
 fn make<N: Net + Drop>(rt: &HostRuntime, day: &Day<'_>, net: N) -> anyhow::Result<Outcome> {
@@ -40,13 +40,13 @@ fn run(rt: &HostRuntime) -> anyhow::Result<Outcome> {
     }
 }
 
-fn main(rt: HostRuntime) -> anyhow::Result<()> {
+fn main(rt: HostRuntime) -> io::Result<ExitCode> {
     match run(&rt) {
-        Ok(Outcome::Agree) => Ok(()),
-        Ok(_) => Err(anyhow!("not handed over")),
+        Ok(Outcome::Agree) => Ok(ExitCode::SUCCESS),
+        Ok(_) => Ok(ExitCode::FAILURE),
         Err(error) => {
             eprintln!(rt; "handover: {error}")?;
-            Err(error)
+            Ok(ExitCode::FAILURE)
         }
     }
 }
