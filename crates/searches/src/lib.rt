@@ -4,22 +4,14 @@
 ghost use Rattle.std.specs.Prelude.{◌≡◌, ℕ, ◌<◌, Bool, IfSome};
 ghost use Rattle.theory.specs.Tests.{least};
 
-/// A test of numbered things, one at a time.
-pub trait Test {
-    ghost passes: { Self → ℕ → Bool };
-
-    /// Whether the thing with this number passes.
-    fn test(&self, number: u16) -> bool
-        ensures { result ≡ passes self.now number };
-}
-
-/// The least number below `end` that passes.
-pub fn least_below<T: Test>(test: &T, end: u16) -> Option<u16>
-    ensures answer { result ≡ least (T.passes test.now) end }
+/// The least number below `end` that passes the test.
+pub fn least_below<F: Fn(u16) -> bool>(end: u16, test: F) -> Option<u16>
+    requires { F.IsAlwaysCallable test }
+    ensures answer { (p : ℕ → Bool) → ((k : ℕ) (b : Bool) → k < end → F.post test k b → b ≡ p k) → result ≡ least p end }
     ensures below { IfSome result (λ k. k < end) }
 {
     for number in 0..end {
-        if test.test(number) {
+        if test(number) {
             return Some(number);
         }
     }

@@ -8,3 +8,4 @@ pub mod FirstOrder
 pub mod Appended
 pub mod Exchanging
 pub mod SafeFound
+pub mod Filled

@@ -16,18 +16,14 @@ ghost use Rattle.theory.specs.Laws.{AgreeingExchanged};
 
 /// A tally can be done in some order exactly if no place is short and none is cut off, and every
 /// such order ends at the final numbers.
-pub fn which_tallies_can_be_done() -> u8
-    ensures answer { result ≡ 0 }
+pub fn which_tallies_can_be_done()
     ensures exactly { DoneExactlyIf }
     ensures ends { EndsAtFinalNumbers }
     ensures short { ShortBelowZero }
-{
-    0
-}
+{}
 
 /// Taking the least safe step each time gives the first order, and there always is a safe step.
-pub fn which_order_is_the_first() -> u8
-    ensures answer { result ≡ 0 }
+pub fn which_order_is_the_first()
     ensures step { SafeStepExists }
     ensures first { LeastSafeIsFirst }
     ensures least { ComputedIsLeastSafe }
@@ -35,33 +31,24 @@ pub fn which_order_is_the_first() -> u8
     ensures one { FirstIsOne }
     ensures goes_on { FirstOrderGoesOn }
     ensures ends { FirstOrderEnds }
-{
-    0
-}
+{}
 
 /// A step is safe by what happens at its input place alone, and any way to find the reached places will do.
-pub fn how_a_safe_step_is_found() -> u8
-    ensures answer { result ≡ 0 }
+pub fn how_a_safe_step_is_found()
     ensures finals { FiringKeepsFinalNumbers }
     ensures by_its_input { SafeByItsInput }
     ensures closed_set { ClosedSetIsReached }
-{
-    0
-}
+{}
 
 /// Earlier is a strict order that compares any two orders of one length.
-pub fn how_orders_compare() -> u8
-    ensures answer { result ≡ 0 }
+pub fn how_orders_compare()
     ensures one_way { EarlierOneWay }
     ensures goes_on { EarlierGoesOn }
     ensures compares { EarlierCompares }
-{
-    0
-}
+{}
 
 /// The tests that compute decide what is defined by relations.
-pub fn what_the_tests_decide() -> u8
-    ensures answer { result ≡ 0 }
+pub fn what_the_tests_decide()
     ensures short { ShortDecided }
     ensures subnet { SubnetDecided }
     ensures reached { ReachedDecided }
@@ -70,13 +57,10 @@ pub fn what_the_tests_decide() -> u8
     ensures safe { SafeDecided }
     ensures least { LeastFound }
     ensures none { NoneFound }
-{
-    0
-}
+{}
 
 /// What one order after another fires, where it ends, and that the parts of a first order are first.
-pub fn one_order_after_another() -> u8
-    ensures answer { result ≡ 0 }
+pub fn one_order_after_another()
     ensures can_fire { CanFireAppended }
     ensures after { AfterAppended }
     ensures counts { TimesAppended }
@@ -84,22 +68,14 @@ pub fn one_order_after_another() -> u8
     ensures finals { FinalNumbersAppended }
     ensures front { FrontIsFirst }
     ensures rest { RestIsFirst }
-{
-    0
-}
+{}
 
 /// Markings that agree on the net's places, and tallies that agree on its steps, can be exchanged.
-pub fn only_the_net_counts() -> u8
-    ensures answer { result ≡ 0 }
+pub fn only_the_net_counts()
     ensures exchanged { AgreeingExchanged }
-{
-    0
-}
+{}
 
 /// The small nets come out as worked out by hand.
-pub fn small_nets() -> u8
-    ensures answer { result ≡ 0 }
+pub fn small_nets()
     ensures hold { CasesHold }
-{
-    0
-}
+{}

@@ -1,6 +1,5 @@
-use Rattle.std.proofs.Common.{refl}
 use Rattle.answers.proofs.Pinning.{pinned}
 use Rattle.answers.proofs.answers_are_pinned.Goals as goal
 
 pub returns : goal.returns
-returns c = record { answer = refl; pinned = pinned }
+returns c = record { pinned = pinned }

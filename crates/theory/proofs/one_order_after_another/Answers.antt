@@ -1,11 +1,9 @@
-use Rattle.std.proofs.Common.{refl}
 use Rattle.theory.proofs.Appended.{can_fire_appended, after_appended, times_appended, realizes_appended, final_numbers_appended, front_is_first, rest_is_first}
 use Rattle.theory.proofs.one_order_after_another.Goals as goal
 
 pub returns : goal.returns
 returns c =
     record {
-      answer = refl;
       can_fire = can_fire_appended;
       after = after_appended;
       counts = times_appended;

@@ -1,6 +1,5 @@
-use Rattle.std.proofs.Common.{refl}
 use Rattle.theory.proofs.Exchanging.{agreeing_exchanged}
 use Rattle.theory.proofs.only_the_net_counts.Goals as goal
 
 pub returns : goal.returns
-returns c = record { answer = refl; exchanged = agreeing_exchanged }
+returns c = record { exchanged = agreeing_exchanged }

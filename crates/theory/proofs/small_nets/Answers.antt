@@ -4,4 +4,4 @@ use Rattle.theory.proofs.small_nets.Goals as goal
 
 pub returns : goal.returns
 unfolding sum_to
-returns c = record { answer = refl; hold = refl }
+returns c = record { hold = refl }

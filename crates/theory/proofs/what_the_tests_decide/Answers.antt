@@ -1,4 +1,3 @@
-use Rattle.std.proofs.Common.{refl}
 use Rattle.theory.proofs.ReachRounds.{reached_decided}
 use Rattle.theory.proofs.Decided.{short_decided, subnet_decided, cut_off_decided, done_decided, safe_decided, least_found, none_found}
 use Rattle.theory.proofs.what_the_tests_decide.Goals as goal
@@ -6,7 +5,6 @@ use Rattle.theory.proofs.what_the_tests_decide.Goals as goal
 pub returns : goal.returns
 returns c =
     record {
-      answer = refl;
       short = short_decided;
       subnet = subnet_decided;
       reached = reached_decided;

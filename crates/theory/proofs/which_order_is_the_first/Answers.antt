@@ -1,4 +1,3 @@
-use Rattle.std.proofs.Common.{refl}
 use Rattle.theory.proofs.Decided.{safe_step_exists}
 use Rattle.theory.proofs.FirstOrder.{least_safe_is_first, computed_is_least_safe, computed_is_first, first_is_one, first_order_goes_on, first_order_ends}
 use Rattle.theory.proofs.which_order_is_the_first.Goals as goal
@@ -6,7 +5,6 @@ use Rattle.theory.proofs.which_order_is_the_first.Goals as goal
 pub returns : goal.returns
 returns c =
     record {
-      answer = refl;
       step = safe_step_exists;
       first = least_safe_is_first;
       least = computed_is_least_safe;
