@@ -6,26 +6,26 @@ ghost use Rattle.std.specs.Prelude.{◌≡◌};
 pub fn byte_at(file: &[u8], i: usize) -> u8
     ensures { result ≡ byte file.now i }
 {
-    if i < file.len() { file[i] } else { 0 }
+    file.get(i).copied().unwrap_or(0)
 }
 
 /// The number in two bytes, the high one first.
 pub fn pair_at(file: &[u8], i: usize) -> u16
     ensures { result ≡ two_bytes file.now i }
 {
-    if i >= file.len() {
-        return 0;
-    }
-    256 * byte_at(file, i) as u16 + byte_at(file, i + 1) as u16
+    let rest = file.get(i..).unwrap_or(&[]);
+    u16::from_be_bytes([byte_at(rest, 0), byte_at(rest, 1)])
 }
 
 /// The number in four bytes, the high one first.
 pub fn four_at(file: &[u8], i: usize) -> u32
     ensures { result ≡ four_bytes file.now i }
 {
-    if i >= file.len() {
-        return 0;
-    }
-    let rest = &file[i..];
-    65536 * pair_at(rest, 0) as u32 + pair_at(rest, 2) as u32
+    let rest = file.get(i..).unwrap_or(&[]);
+    u32::from_be_bytes([
+        byte_at(rest, 0),
+        byte_at(rest, 1),
+        byte_at(rest, 2),
+        byte_at(rest, 3),
+    ])
 }

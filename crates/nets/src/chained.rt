@@ -1,13 +1,13 @@
 //! The chained net: the yields of a step are a chain of arcs.
-ghost use Rattle.std.specs.Prelude.{◌≡◌, ℕ, ◌+◌, ◌^◌, ◌<◌, ◌≤◌, false, is_some, is_ok, if◌then◌else◌, slice_index};
+ghost use Rattle.std.specs.Prelude.{◌≡◌, ℕ, ◌^◌, ◌<◌, ◌≤◌, Some, None, MatchResult, false, is_some, is_ok, if◌then◌else◌, slice_index};
 ghost use Rattle.formats.proofs.ChainedLaw.{chained_lawful};
-ghost use Rattle.formats.specs.Chained.{chained_steps, chained_arcs, first_arc, arc_begin, arc_place, arc_weight, arc_next, next_fits, chained_step_unfit, arc_unfit, chain_empty, chain_yield, chained_end, head_refusal, chained_head_refusal, chained_rows_refusal, chained_refusal, chained_net};
+ghost use Rattle.formats.specs.Chained.{chained_arcs, chained_input, first_arc, arc_begin, arc_place, arc_weight, arc_next, next_fits, chained_step_unfit, arc_unfit, chain_yield, chained_end, head_refusal, chained_rows_refusal, chained_refusal, chained_net};
 ghost use Rattle.refusals.specs.Answered.{answered};
 
 use crate::bytes::{byte_at, pair_at};
-use crate::net::Net;
+use crate::net::{MOST_PLACES, MOST_STEPS, Net};
 use refusals::Refusal;
-use searches::{Test, least_below};
+use searches::least_below;
 
 /// A net that answers from the bytes of a chained file, which it borrows.
 #[derive(Clone, Copy)]
@@ -18,10 +18,6 @@ pub struct ChainedNet<'a> {
 }
 
 const HEAD: usize = 4;
-
-const MOST_PLACES: u8 = 64;
-
-const MOST_STEPS: u8 = 128;
 
 const MOST_ARCS: u16 = 1023;
 
@@ -34,11 +30,25 @@ fn arcs(file: &[u8]) -> u16
     pair_at(file, 2)
 }
 
+/// The place at which a step takes its block.
+fn input_of(file: &[u8], step: u16) -> u8
+    ensures { result ≡ chained_input file.now step }
+{
+    byte_at(file, HEAD + 3 * usize::from(step))
+}
+
 /// The arc with which the chain of a step begins; 0 for none.
 fn first_arc(file: &[u8], step: u16) -> u16
     ensures { result ≡ first_arc file.now step }
 {
-    pair_at(file, 5 + 3 * step as usize)
+    pair_at(file, HEAD + 3 * usize::from(step) + 1)
+}
+
+/// Whether the input of a step is no place of the net, or its first arc is no arc.
+fn step_unfit(file: &[u8], step: u16) -> bool
+    ensures { result ≡ chained_step_unfit file.now step }
+{
+    input_of(file, step) >= byte_at(file, 0) || first_arc(file, step) > arcs(file)
 }
 
 /// Where the bytes of an arc begin; arcs are numbered from 1.
@@ -46,7 +56,7 @@ fn begin(file: &[u8], arc: u32) -> usize
     ensures is { result ≡ arc_begin file.now arc }
     ensures bound { result < 2 ^ 40 }
 {
-    3 * byte_at(file, 1) as usize + 4 * arc as usize
+    3 * usize::from(byte_at(file, 1)) + 4 * arc as usize
 }
 
 /// The place at which an arc yields.
@@ -74,56 +84,25 @@ fn next_of(file: &[u8], arc: u32) -> u16
 fn next_fits(file: &[u8], arc: u32) -> bool
     ensures { result ≡ next_fits file.now arc }
 {
-    let next = next_of(file, arc) as u32;
+    let next = u32::from(next_of(file, arc));
     next == 0
-        || (arc < next && next <= arcs(file) as u32 && place_of(file, arc) < place_of(file, next))
+        || (arc < next
+            && next <= u32::from(arcs(file))
+            && place_of(file, arc) < place_of(file, next))
 }
 
-/// A step whose input is no place of the net, or whose first arc is no arc.
-#[derive(Drop)]
-struct StepUnfit<'a>(&'a [u8]);
-
-impl Test for StepUnfit<'_> {
-    ghost passes = { λ f. chained_step_unfit f.0.now };
-
-    fn test(&self, number: u16) -> bool {
-        let input = byte_at(self.0, HEAD + 3 * number as usize);
-        input >= byte_at(self.0, 0) || first_arc(self.0, number) > arcs(self.0)
-    }
-}
-
-/// An arc, counted from 0, that is at no place of the net, has no weight or goes on wrongly.
-#[derive(Drop)]
-struct ArcUnfit<'a>(&'a [u8]);
-
-impl Test for ArcUnfit<'_> {
-    ghost passes = { λ f k. arc_unfit f.0.now (k + 1) };
-
-    fn test(&self, number: u16) -> bool {
-        let arc = number as u32 + 1;
-        place_of(self.0, arc) >= byte_at(self.0, 0)
-            || weight_of(self.0, arc) == 0
-            || !next_fits(self.0, arc)
-    }
-}
-
-/// A step without an arc.
-#[derive(Drop)]
-struct ChainEmpty<'a>(&'a [u8]);
-
-impl Test for ChainEmpty<'_> {
-    ghost passes = { λ f. chain_empty f.0.now };
-
-    fn test(&self, number: u16) -> bool {
-        first_arc(self.0, number) == 0
-    }
+/// Whether an arc is at no place of the net, has no weight or goes on wrongly.
+fn arc_unfit(file: &[u8], arc: u32) -> bool
+    ensures { result ≡ arc_unfit file.now arc }
+{
+    place_of(file, arc) >= byte_at(file, 0) || weight_of(file, arc) == 0 || !next_fits(file, arc)
 }
 
 /// How many bytes the head tells.
 pub fn file_end(file: &[u8]) -> usize
     ensures { result ≡ chained_end file.now }
 {
-    HEAD + 3 * byte_at(file, 1) as usize + 4 * arcs(file) as usize
+    HEAD + 3 * usize::from(byte_at(file, 1)) + 4 * usize::from(arcs(file))
 }
 
 /// The checks of the head, and of the length where the file is to have so many bytes.
@@ -146,25 +125,18 @@ pub fn check_head_to(file: &[u8], end: usize) -> Result<(), Refusal>
     Ok(())
 }
 
-/// The checks of the head and the length of a file that has no more than a net.
-fn check_head(file: &[u8]) -> Result<(), Refusal>
-    ensures { result ≡ answered (chained_head_refusal file.now) tt }
-{
-    check_head_to(file, file_end(file))
-}
-
 /// The checks of the steps and arcs; the first that fails decides.
 fn check_rows(file: &[u8]) -> Result<(), Refusal>
     ensures { result ≡ answered (chained_rows_refusal file.now) tt }
 {
-    let steps = byte_at(file, 1) as u16;
-    if let Some(step) = least_below(&StepUnfit(file), steps) {
+    let steps = u16::from(byte_at(file, 1));
+    if let Some(step) = least_below(steps, |step| step_unfit(file, step)) {
         return Err(Refusal::StepUnfit(step));
     }
-    if let Some(number) = least_below(&ArcUnfit(file), arcs(file)) {
+    if let Some(number) = least_below(arcs(file), |number| arc_unfit(file, u32::from(number) + 1)) {
         return Err(Refusal::ArcUnfit(number + 1));
     }
-    if let Some(step) = least_below(&ChainEmpty(file), steps) {
+    if let Some(step) = least_below(steps, |step| first_arc(file, step) == 0) {
         return Err(Refusal::StepWithoutYield(step));
     }
     Ok(())
@@ -174,7 +146,7 @@ fn check_rows(file: &[u8]) -> Result<(), Refusal>
 fn chain_yield(file: &[u8], first: u16, place: u8) -> u8
     ensures { result ≡ chain_yield file.now (chained_arcs file.now) first place }
 {
-    let mut arc = first as u32;
+    let mut arc = u32::from(first);
     for _seen in 0..arcs(file) {
         if arc == 0 {
             return 0;
@@ -182,7 +154,7 @@ fn chain_yield(file: &[u8], first: u16, place: u8) -> u8
         if place_of(file, arc) == place {
             return weight_of(file, arc);
         }
-        arc = next_of(file, arc) as u32;
+        arc = u32::from(next_of(file, arc));
     }
     0
 }
@@ -201,10 +173,21 @@ impl<'a> ChainedNet<'a> {
         ensures answer { result ≡ answered (chained_refusal file.now) tt }
         ensures after { self.new.file.now ≡ (if is_ok result then file.now else self.old.file.now) }
     {
-        check_head(file)?;
-        check_rows(file)?;
-        self.file = file;
+        *self = ChainedNet::try_from(file)?;
         Ok(())
+    }
+}
+
+/// Reads a whole file, or says why it is refused.
+impl<'a> TryFrom<&'a [u8]> for ChainedNet<'a> {
+    type Error = Refusal;
+
+    ghost try_from_gives = { λ file r. MatchResult r (λ net. (chained_refusal file.now ≡ None) × (net.file.now ≡ file.now)) (λ refusal. chained_refusal file.now ≡ Some refusal) };
+
+    fn try_from(file: &'a [u8]) -> Result<ChainedNet<'a>, Refusal> {
+        check_head_to(file, file_end(file))?;
+        check_rows(file)?;
+        Ok(ChainedNet { file })
     }
 }
 
@@ -216,12 +199,12 @@ impl Net for ChainedNet<'_> {
     }
 
     fn steps(&self) -> u16 {
-        byte_at(self.file, 1) as u16
+        u16::from(byte_at(self.file, 1))
     }
 
     fn input(&self, step: u16) -> Option<u8> {
         if step < self.steps() {
-            Some(byte_at(self.file, HEAD + 3 * step as usize))
+            Some(input_of(self.file, step))
         } else {
             None
         }

@@ -1,13 +1,13 @@
 //! The grid net: a table of yields, a row for each step.
-ghost use Rattle.std.specs.Prelude.{◌≡◌, ℕ, ◌≤◌, false, is_some, is_ok, if◌then◌else◌, slice_index};
+ghost use Rattle.std.specs.Prelude.{◌≡◌, ℕ, ◌≤◌, Some, None, MatchResult, false, is_some, is_ok, if◌then◌else◌, slice_index};
 ghost use Rattle.formats.proofs.GridLaw.{grid_lawful};
 ghost use Rattle.refusals.specs.Answered.{answered};
 ghost use Rattle.formats.specs.Grid.{grid_input_outside, grid_row, grid_yield, grid_yields_nothing, grid_head_refusal, grid_rows_refusal, grid_refusal, grid_net};
 
 use crate::bytes::byte_at;
-use crate::net::Net;
+use crate::net::{MOST_PLACES, MOST_STEPS, Net};
 use refusals::Refusal;
-use searches::{Test, least_below};
+use searches::least_below;
 
 /// A net that answers from the bytes of a grid file, which it borrows.
 #[derive(Clone, Copy)]
@@ -19,53 +19,34 @@ pub struct GridNet<'a> {
 
 const HEAD: usize = 2;
 
-const MOST_PLACES: u8 = 64;
-
-const MOST_STEPS: u8 = 128;
-
 const ONE_PLACE: [u8; 2] = [1, 0];
-
-/// A step whose input is no place of the net.
-#[derive(Drop)]
-struct InputOutside<'a>(&'a [u8]);
-
-/// A step that yields nothing.
-#[derive(Drop)]
-struct YieldsNothing<'a>(&'a [u8]);
 
 /// Where the row of a step begins.
 fn row_of(file: &[u8], step: u16) -> usize
     ensures { result ≡ grid_row file.now step }
 {
-    HEAD + step as usize * (1 + byte_at(file, 0) as usize)
+    HEAD + usize::from(step) * (1 + usize::from(byte_at(file, 0)))
 }
 
 /// The yield in the row of a step at a place.
 fn yield_of(file: &[u8], step: u16, place: u8) -> u8
     ensures { result ≡ grid_yield file.now step place }
 {
-    byte_at(file, row_of(file, step) + 1 + place as usize)
+    byte_at(file, row_of(file, step) + 1 + usize::from(place))
 }
 
-impl Test for InputOutside<'_> {
-    ghost passes = { λ f. grid_input_outside f.0.now };
-
-    fn test(&self, number: u16) -> bool {
-        byte_at(self.0, row_of(self.0, number)) >= byte_at(self.0, 0)
-    }
+/// Whether the input of a step is no place of the net.
+fn input_outside(file: &[u8], step: u16) -> bool
+    ensures { result ≡ grid_input_outside file.now step }
+{
+    byte_at(file, row_of(file, step)) >= byte_at(file, 0)
 }
 
-impl Test for YieldsNothing<'_> {
-    ghost passes = { λ f. grid_yields_nothing f.0.now };
-
-    fn test(&self, number: u16) -> bool {
-        for place in 0..byte_at(self.0, 0) {
-            if yield_of(self.0, number, place) > 0 {
-                return false;
-            }
-        }
-        true
-    }
+/// Whether a step yields nothing.
+fn yields_nothing(file: &[u8], step: u16) -> bool
+    ensures { result ≡ grid_yields_nothing file.now step }
+{
+    (0..byte_at(file, 0)).all(|place| yield_of(file, step, place) == 0)
 }
 
 /// The checks of the head and the length.
@@ -83,7 +64,7 @@ fn check_head(file: &[u8]) -> Result<(), Refusal>
     if steps > MOST_STEPS {
         return Err(Refusal::TooManyStepsOrArcs);
     }
-    if file.len() != HEAD + steps as usize * (1 + places as usize) {
+    if file.len() != HEAD + usize::from(steps) * (1 + usize::from(places)) {
         return Err(Refusal::WrongLength);
     }
     Ok(())
@@ -93,11 +74,11 @@ fn check_head(file: &[u8]) -> Result<(), Refusal>
 fn check_rows(file: &[u8]) -> Result<(), Refusal>
     ensures { result ≡ answered (grid_rows_refusal file.now) tt }
 {
-    let steps = byte_at(file, 1) as u16;
-    if let Some(step) = least_below(&InputOutside(file), steps) {
+    let steps = u16::from(byte_at(file, 1));
+    if let Some(step) = least_below(steps, |step| input_outside(file, step)) {
         return Err(Refusal::StepUnfit(step));
     }
-    if let Some(step) = least_below(&YieldsNothing(file), steps) {
+    if let Some(step) = least_below(steps, |step| yields_nothing(file, step)) {
         return Err(Refusal::StepWithoutYield(step));
     }
     Ok(())
@@ -117,10 +98,21 @@ impl<'a> GridNet<'a> {
         ensures answer { result ≡ answered (grid_refusal file.now) tt }
         ensures after { self.new.file.now ≡ (if is_ok result then file.now else self.old.file.now) }
     {
+        *self = GridNet::try_from(file)?;
+        Ok(())
+    }
+}
+
+/// Reads a whole file, or says why it is refused.
+impl<'a> TryFrom<&'a [u8]> for GridNet<'a> {
+    type Error = Refusal;
+
+    ghost try_from_gives = { λ file r. MatchResult r (λ net. (grid_refusal file.now ≡ None) × (net.file.now ≡ file.now)) (λ refusal. grid_refusal file.now ≡ Some refusal) };
+
+    fn try_from(file: &'a [u8]) -> Result<GridNet<'a>, Refusal> {
         check_head(file)?;
         check_rows(file)?;
-        self.file = file;
-        Ok(())
+        Ok(GridNet { file })
     }
 }
 
@@ -132,7 +124,7 @@ impl Net for GridNet<'_> {
     }
 
     fn steps(&self) -> u16 {
-        byte_at(self.file, 1) as u16
+        u16::from(byte_at(self.file, 1))
     }
 
     fn input(&self, step: u16) -> Option<u8> {

@@ -9,3 +9,4 @@ pub mod Appended
 pub mod Exchanging
 pub mod SafeFound
 pub mod Filled
+pub mod Ranges

@@ -12,7 +12,7 @@ loop-seen-preserved c =
     c.loop-seen.invariant
     ∙ chain_next file (A - seen) c.loop-seen.arc c.args.place (omega (arith, c.loop-seen-test.true, c.arcs-seen-end.ensures)) (omega (arith, c.if-arc-eq0.false)) (λ e. c.if-place_of-place.false (c.place_of.ensures ∙ e))
     ∙ ap (λ z. chain_yield file z (arc_next file c.loop-seen.arc) c.args.place) less
-    ∙ ap (λ z. chain_yield file (A - (seen + 1)) z c.args.place) (sym c.next_of-arc.ensures)
+    ∙ ap (λ z. chain_yield file (A - (seen + 1)) z c.args.place) (sym (c.from-arc-in-loop-seen.ensures ∙ c.next_of.ensures))
 
 pub returns-then-arc-eq0 : goal.returns-then-arc-eq0
 returns-then-arc-eq0 c =
