@@ -1,4 +1,5 @@
 pub mod States
+pub mod Kinds
 pub mod Answers
 pub mod Findings
 pub mod Calls

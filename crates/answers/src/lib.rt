@@ -3,9 +3,46 @@
 
 ghost use Rattle.answers.specs.Cases.{CasesHold};
 ghost use Rattle.answers.specs.Findings.{number_of};
+ghost use Rattle.answers.specs.Kinds.{byte_of, KindOf};
 ghost use Rattle.answers.specs.Pinned.{Pinned};
 ghost use Rattle.answers.specs.Promise.{Promise};
 ghost use Rattle.std.specs.Prelude.{◌≡◌};
+
+use refusals::Refusal;
+
+/// How the final numbers of an order are to meet a target; the calls take it as a byte.
+#[derive(Clone, Copy, PartialEq, Eq, Debug)]
+pub enum Kind {
+    /// 0: each final number is the target's.
+    Exact,
+    /// 1: no final number is below the target's.
+    AtLeast,
+}
+
+impl TryFrom<u8> for Kind {
+    type Error = Refusal;
+
+    ghost try_from_gives = { KindOf };
+
+    fn try_from(byte: u8) -> Result<Kind, Refusal> {
+        match byte {
+            0 => Ok(Kind::Exact),
+            1 => Ok(Kind::AtLeast),
+            _ => Err(Refusal::RowsUnfit),
+        }
+    }
+}
+
+impl From<Kind> for u8 {
+    ghost from_gives = { λ kind byte. byte ≡ byte_of kind };
+
+    fn from(kind: Kind) -> u8 {
+        match kind {
+            Kind::Exact => 0,
+            Kind::AtLeast => 1,
+        }
+    }
+}
 
 /// What is wrong at a place, with its signed number.
 #[derive(Clone, Copy, PartialEq, Eq, Debug)]
@@ -31,9 +68,8 @@ impl Cause {
         ensures { result ≡ number_of self }
     {
         match self {
-            Cause::Short(number) => number,
+            Cause::Short(number) | Cause::Missed(number) => number,
             Cause::CutOff => 0,
-            Cause::Missed(number) => number,
         }
     }
 }

@@ -3,7 +3,6 @@
 
 pub mod asked;
 pub mod finals;
-mod rows;
 pub mod sums;
 #[cfg(test)]
 mod tests;

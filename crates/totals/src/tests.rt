@@ -1,6 +1,7 @@
 //! Totals and final numbers of small nets, worked out by hand.
 use crate::asked::{done_total, gained, spent, steps_asked, yields_asked, yields_of};
 use crate::finals::Asked;
+use answers::Kind;
 use nets::grid::GridNet;
 use std::process::Abort;
 use std::test::Fail;
@@ -29,38 +30,43 @@ fn tripler<'a>(rt: &impl Abort, file: &'a [u8]) -> Result<(), Fail> {
 fn detour<'a>(rt: &impl Abort, file: &'a [u8]) -> Result<(), Fail> {
     let mut net: GridNet<'a> = GridNet::new();
     net.load(file)?;
-    let asked = Asked {
+    let at_least = Asked {
         net: &net,
         counts: &[1, 0, 0],
         tally: &[0, 1, 2],
+        target: &[0, 0, 0],
+        kind: Kind::AtLeast,
     };
     assert_eq!(rt;
         (
-            asked.final_number(0),
-            asked.final_number(1),
-            asked.final_number(2),
+            at_least.final_number(0),
+            at_least.final_number(1),
+            at_least.final_number(2),
         ),
         (2, -1, 0)
     );
     assert_eq!(rt;
-        (asked.is_short(0), asked.is_short(1), asked.least_short()),
+        (
+            at_least.is_short(0),
+            at_least.is_short(1),
+            at_least.least_short(),
+        ),
         (false, true, Some(1))
     );
     assert_eq!(rt;
-        (
-            asked.least_missed(&[0, 0, 0], 1),
-            asked.missed_by(&[0, 0, 0], 1),
-        ),
+        (at_least.least_missed(), at_least.missed_by(1)),
         (Some(1), -1)
     );
-    assert_eq!(rt;
-        (
-            asked.least_missed(&[0, 0, 0], 0),
-            asked.missed_by(&[0, 0, 0], 0),
-        ),
-        (Some(0), 2)
-    );
-    assert_eq!(rt; asked.is_missed(&[2, 0, 0], 0, 2), false);
+    let exact = Asked {
+        kind: Kind::Exact,
+        ..at_least
+    };
+    assert_eq!(rt; (exact.least_missed(), exact.missed_by(0)), (Some(0), 2));
+    let met = Asked {
+        target: &[2, 0, 0],
+        ..exact
+    };
+    assert_eq!(rt; met.is_missed(2), false);
     Ok(())
 }
 
