@@ -1,12 +1,13 @@
 //! The bounded list: elements of any kind, one behind the other, at the front of lent memory.
 #![tactic(auto)]
 
-ghost use Rattle.std.specs.Prelude.{◌≡◌, ℕ, ◌+◌, ◌≤◌, length, Option};
+ghost use Rattle.std.specs.Prelude.{◌≡◌, ℕ, ◌+◌, ◌<◌, ◌≤◌, length, Option};
 ghost use Rattle.lists.specs.Lists.{Adds, AddsFound, Gets, Writes};
 
 use refusals::Refusal;
 
-/// A list that keeps its elements in memory that its user lends it, and never grows past it.
+/// A list that keeps its elements in memory that its user lends it, and never grows past it: the calls
+/// write into lent memory, so a `Vec` is not allowed here.
 #[derive(Drop)]
 pub struct BoundedList<'a, T> {
     memory: &'a mut [T],
@@ -43,8 +44,7 @@ impl<'a, T: Drop> BoundedList<'a, T> {
     pub fn get(&self, i: usize) -> Option<&T>
         ensures { Gets self.now.memory.now self.now.len i result }
     {
-        let memory = &*self.memory;
-        if i < self.len { Some(&memory[i]) } else { None }
+        self.memory[..self.len].get(i)
     }
 
     /// One element more at the end; refused when the memory is full.
@@ -61,30 +61,22 @@ impl<'a, T: Drop> BoundedList<'a, T> {
     }
 }
 
-/// A search for items, one number at a time.
-pub trait Finds<T> {
-    ghost at: { Self → ℕ → Option T };
-
-    /// What is found at this number, if anything.
-    fn find(&self, number: u16) -> Option<T>
-        ensures { result ≡ at self.now number };
-}
-
 /// Adds all that is found at the numbers below `end`, by rising number; refused, before anything is
 /// added, where there is no room for one item of each number.
-pub fn add_found<T: Drop, F: Finds<T>>(
+pub fn add_found<T: Drop, F: Fn(u16) -> Option<T>>(
     list: &mut BoundedList<T>,
-    finds: &F,
     end: u16,
+    find: F,
 ) -> Result<(), Refusal>
+    requires { (k : ℕ) → k < end → F.pre find k }
     ensures lender { list.new.memory.ghost_name ≡ list.old.memory.ghost_name }
-    ensures adds { AddsFound (F.at finds.now) end list.old.memory.now list.old.len result list.new.memory.now list.new.len }
+    ensures adds { (at : ℕ → Option T) → ((k : ℕ) (r : Option T) → k < end → F.post find k r → r ≡ at k) → AddsFound at end list.old.memory.now list.old.len result list.new.memory.now list.new.len }
 {
-    if list.room() < end as usize {
+    if list.room() < usize::from(end) {
         return Err(Refusal::ListFull);
     }
     for number in 0..end {
-        if let Some(item) = finds.find(number) {
+        if let Some(item) = find(number) {
             let _ = list.add(item);
         }
     }

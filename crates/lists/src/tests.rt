@@ -1,7 +1,5 @@
 //! What lists do, by example.
-ghost use Rattle.std.specs.Prelude.{◌*◌, ◌%◌, min, if◌then◌else◌, Some, None, nat_eq};
-
-use crate::{BoundedList, Finds, add_found, write_row};
+use crate::{BoundedList, add_found, write_row};
 use refusals::Refusal;
 use std::test::Fail;
 
@@ -38,19 +36,12 @@ fn a_row_that_does_not_fit_writes_nothing(rt: HostRuntime) {
     assert_eq!(rt; memory, [1, 9]);
 }
 
-// finds ten times each odd number
-#[derive(Drop)]
-struct OddTens;
-
-impl Finds<u16> for OddTens {
-    ghost at = { λ _ k. (if nat_eq (k % 2) 1 then Some (10 * min k 6000) else None) };
-
-    fn find(&self, number: u16) -> Option<u16> {
-        if number % 2 == 1 {
-            Some(10 * number.min(6000))
-        } else {
-            None
-        }
+// ten times each odd number
+fn odd_tens(number: u16) -> Option<u16> {
+    if number % 2 == 1 {
+        Some(10 * number.min(6000))
+    } else {
+        None
     }
 }
 
@@ -59,8 +50,8 @@ fn what_is_found_is_added_behind_the_last(rt: HostRuntime) -> Result<(), Fail> {
     let mut memory = [9u16; 6];
     let mut list = BoundedList::new(&mut memory);
     list.add(1)?;
-    assert_eq!(rt; add_found(&mut list, &OddTens, 6), Err(Refusal::ListFull));
-    assert_eq!(rt; add_found(&mut list, &OddTens, 5), Ok(()));
+    assert_eq!(rt; add_found(&mut list, 6, odd_tens), Err(Refusal::ListFull));
+    assert_eq!(rt; add_found(&mut list, 5, odd_tens), Ok(()));
     assert_eq!(rt; list.len(), 3);
     assert_eq!(rt; memory, [1, 10, 30, 9, 9, 9]);
     Ok(())

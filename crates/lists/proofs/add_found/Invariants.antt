@@ -1,4 +1,4 @@
-use Rattle.std.proofs.Common.{◌≡◌, ◌++◌, take}
+use Rattle.std.proofs.Common.{◌≡◌, ℕ, ◌<◌, ◌++◌, take, Option}
 use Rattle.lists.specs.Lists.{found_below}
 use Rattle.lists.proofs.Written.{Written}
 use Rattle.lists.proofs.add_found.Given as goal
@@ -7,4 +7,4 @@ use Rattle.lists.proofs.add_found.Given as goal
 abbrev pub invariant-loop-number : goal.invariant-loop-number
 invariant-loop-number g l =
     (l.list.memory.ghost_name ≡ l.initial.list.memory.ghost_name)
-    × Written l.initial.list.memory.now (take l.initial.list.len l.initial.list.memory.now ++ found_below (g.F.Finds.at l.finds) l.number) l.list.memory.now l.list.len
+    × ((at : ℕ → Option _) → ((k : ℕ) (r : Option _) → k < l.end → goal.F-post g l.find k r → r ≡ at k) → Written l.initial.list.memory.now (take l.initial.list.len l.initial.list.memory.now ++ found_below at l.number) l.list.memory.now l.list.len)
