@@ -112,11 +112,11 @@ pub fn check_head_to(file: &[u8], end: usize) -> Result<(), Refusal>
     if file.len() < HEAD {
         return Err(Refusal::WrongLength);
     }
-    let places = byte_at(file, 0);
+    let places = usize::from(byte_at(file, 0));
     if places == 0 || places > MOST_PLACES {
         return Err(Refusal::PlacesOutOfRange);
     }
-    if byte_at(file, 1) > MOST_STEPS || arcs(file) > MOST_ARCS {
+    if usize::from(byte_at(file, 1)) > MOST_STEPS || arcs(file) > MOST_ARCS {
         return Err(Refusal::TooManyStepsOrArcs);
     }
     if file.len() != end {

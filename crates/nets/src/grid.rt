@@ -56,15 +56,15 @@ fn check_head(file: &[u8]) -> Result<(), Refusal>
     if file.len() < HEAD {
         return Err(Refusal::WrongLength);
     }
-    let places = byte_at(file, 0);
-    let steps = byte_at(file, 1);
+    let places = usize::from(byte_at(file, 0));
+    let steps = usize::from(byte_at(file, 1));
     if places == 0 || places > MOST_PLACES {
         return Err(Refusal::PlacesOutOfRange);
     }
     if steps > MOST_STEPS {
         return Err(Refusal::TooManyStepsOrArcs);
     }
-    if file.len() != HEAD + usize::from(steps) * (1 + usize::from(places)) {
+    if file.len() != HEAD + steps * (1 + places) {
         return Err(Refusal::WrongLength);
     }
     Ok(())

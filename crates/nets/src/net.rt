@@ -4,10 +4,10 @@ ghost use Rattle.theory.specs.Nets.{LawfulNet};
 ghost use Rattle.std.specs.Prelude.{◌≡◌};
 
 /// The most places that a net has.
-pub const MOST_PLACES: u8 = 64;
+pub const MOST_PLACES: usize = 64;
 
 /// The most steps that a net has.
-pub const MOST_STEPS: u8 = 128;
+pub const MOST_STEPS: usize = 128;
 
 /// A communication-free Petri net: each step (transition) takes one block (token) at one place.
 pub trait Net {

@@ -9,13 +9,13 @@ use Rattle.table_law.specs.Tables.{cell, yields_somewhere, table_net}
 use Rattle.table_law.proofs.Conditions.{of_step, of_no_step, inside, outside_steps, outside_places}
 
 -- the table holds every answer of the net
-pub record Holds (N : NetMeaning) (P T : ℕ) (row cells : List ℕ) : Type 0 where
+pub record Holds (N : NetMeaning) (P T : ℕ) (row : List ℕ) (cells : List (List ℕ)) : Type 0 where
   pub places : P ≡ N.places
   pub steps : T ≡ N.steps
   pub inputs : (t : ℕ) → t < N.steps → at row t ≡ N.input t
-  pub yields : (t p : ℕ) → t < N.steps → p < N.places → at cells (cell t p) ≡ N.yields t p
+  pub yields : (t p : ℕ) → t < N.steps → p < N.places → cell cells t p ≡ N.yields t p
 
-module _ (N : NetMeaning) (law : NetLaw N) (P T : ℕ) (inputs yields : List ℕ) (holds : Holds N P T inputs yields) where
+module _ (N : NetMeaning) (law : NetLaw N) (P T : ℕ) (inputs : List ℕ) (yields : List (List ℕ)) (holds : Holds N P T inputs yields) where
   same_input : (t : ℕ) → (table_net P T inputs yields).input t ≡ N.input t
   same_input t =
       elim (cases_lt t T) [
@@ -25,7 +25,7 @@ module _ (N : NetMeaning) (law : NetLaw N) (P T : ℕ) (inputs yields : List ℕ
 
   same_yield : (t p : ℕ) → (table_net P T inputs yields).yields t p ≡ N.yields t p
   same_yield t p =
-      let y : ℕ = at yields (cell t p) in
+      let y : ℕ = cell yields t p in
       elim (cases_lt t T) [
         | inl h ↦
             elim (cases_lt p P) [
@@ -45,7 +45,7 @@ module _ (N : NetMeaning) (law : NetLaw N) (P T : ℕ) (inputs yields : List ℕ
         yields = fun_ext (λ t. fun_ext (same_yield t)) i;
       }
 
-  pub yields_small : (t p : ℕ) → t < T → p < P → at yields (cell t p) ≤ 255
+  pub yields_small : (t p : ℕ) → t < T → p < P → cell yields t p ≤ 255
   yields_small t p h k =
       omega (arith, law.yields_small t p, holds.yields t p (omega (arith, holds.places, holds.steps)) (omega (arith, holds.places, holds.steps)))
 
@@ -61,5 +61,5 @@ module _ (N : NetMeaning) (law : NetLaw N) (P T : ℕ) (inputs yields : List ℕ
         | inl k ↦ k
         | inr k ↦ absurd (omega (arith, found.1, law.no_yield_outside_places t p k))
       ] in
-      any_from (λ q. ltb 0 (at yields (cell t q))) p P (omega (arith, holds.places, holds.steps))
-      (lt-ltb 0 (at yields (cell t p)) (omega (arith, found.1, holds.yields t p step place)))
+      any_from (λ q. ltb 0 (cell yields t q)) p P (omega (arith, holds.places, holds.steps))
+      (lt-ltb 0 (cell yields t p) (omega (arith, found.1, holds.yields t p step place)))

@@ -4,21 +4,21 @@ ghost use Rattle.table_law.proofs.TableLaw.{table_lawful};
 ghost use Rattle.table_law.specs.Tables.{cell, yields_somewhere, table_net};
 ghost use Rattle.theory.specs.Rows.{at};
 
-use crate::reads::{ROW, read_inputs, read_yields};
-use nets::net::Net;
+use crate::reads::{read_inputs, read_yields};
+use nets::net::{MOST_PLACES, MOST_STEPS, Net};
 
 /// The answers of a net: the input of each step, and a row of yields for each step.
 #[derive(Drop)]
 pub struct NetTable {
     places: u8,
     steps: u16,
-    inputs: [u8; 128],
-    yields: [u8; 8192],
+    inputs: [u8; MOST_STEPS],
+    yields: [[u8; MOST_PLACES]; MOST_STEPS],
     ghost some_place: { 1 ≤ places },
     ghost few_places: { places ≤ 64 },
     ghost few_steps: { steps ≤ 128 },
     ghost inputs_inside: { (t : ℕ) → t < steps → at inputs t < places },
-    ghost yields_small: { (t p : ℕ) → t < steps → p < places → at yields (cell t p) ≤ 255 },
+    ghost yields_small: { (t p : ℕ) → t < steps → p < places → cell yields t p ≤ 255 },
     ghost yields_something: { (t : ℕ) → t < steps → yields_somewhere yields places t ≡ true },
 }
 
@@ -27,15 +27,11 @@ impl NetTable {
     pub fn read<N: Net>(net: &N) -> NetTable
         ensures { table_net result.places result.steps result.inputs result.yields ≡ (N.meaning net.now).net }
     {
-        let mut inputs = [0; 128];
-        let mut yields = [0; 8192];
-        read_inputs(net, &mut inputs);
-        read_yields(net, &mut yields);
         NetTable {
             places: net.places(),
             steps: net.steps(),
-            inputs,
-            yields,
+            inputs: read_inputs(net),
+            yields: read_yields(net),
         }
     }
 }
@@ -53,7 +49,7 @@ impl Net for NetTable {
 
     fn input(&self, step: u16) -> Option<u8> {
         if step < self.steps {
-            Some(self.inputs[step as usize])
+            Some(self.inputs[usize::from(step)])
         } else {
             None
         }
@@ -61,7 +57,7 @@ impl Net for NetTable {
 
     fn yield_at(&self, step: u16, place: u8) -> u8 {
         if step < self.steps && place < self.places {
-            self.yields[ROW * step as usize + place as usize]
+            self.yields[usize::from(step)][usize::from(place)]
         } else {
             0
         }

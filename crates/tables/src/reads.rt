@@ -1,41 +1,41 @@
 //! Reading the answers of a net into rows.
-ghost use Rattle.std.specs.Prelude.{◌≡◌, ℕ, ◌*◌, ◌<◌, length};
+ghost use Rattle.std.specs.Prelude.{◌≡◌, ℕ, ◌<◌};
 ghost use Rattle.table_law.specs.Tables.{cell};
 ghost use Rattle.theory.specs.Rows.{at};
 
-use nets::net::Net;
+use nets::net::{MOST_PLACES, MOST_STEPS, Net};
+use std::array;
 
-/// How many cells a row of yields has, one for each place that a net may have.
-pub(crate) const ROW: usize = 64;
-
-/// Reads the input of each step.
-pub(crate) fn read_inputs<N: Net>(net: &N, inputs: &mut [u8])
-    requires { length inputs.old ≡ 128 }
-    ensures { (t : ℕ) → t < (N.meaning net.now).net.steps → at inputs.new t ≡ (N.meaning net.now).net.input t }
+/// Reads the input of each step; 0 past the last.
+pub(crate) fn read_inputs<N: Net>(net: &N) -> [u8; MOST_STEPS]
+    ensures { (t : ℕ) → t < (N.meaning net.now).net.steps → at result t ≡ (N.meaning net.now).net.input t }
 {
-    for step in 0..net.steps() {
-        inputs[step as usize] = net.input(step).unwrap_or(0);
-    }
+    array::from_fn(|step| net.input(step as u16).unwrap_or(0))
 }
 
-/// Reads the yields of a step into its row, and leaves the rows before it.
-fn read_row<N: Net>(net: &N, step: u16, yields: &mut [u8])
-    requires long { length yields.old ≡ 8192 }
-    requires step { step < 128 }
-    ensures row { (p : ℕ) → p < (N.meaning net.now).net.places → at yields.new (cell step p) ≡ (N.meaning net.now).net.yields step p }
-    ensures same { (i : ℕ) → i < 64 * step → at yields.new i ≡ at yields.old i }
+/// Reads the yields of a step at each place; zeros past the last place and the last step.
+fn read_row<N: Net>(net: &N, step: u16) -> [u8; MOST_PLACES]
+    ensures { (p : ℕ) → p < (N.meaning net.now).net.places → at result p ≡ (N.meaning net.now).net.yields step p }
 {
-    for place in 0..net.places() {
-        yields[ROW * step as usize + place as usize] = net.yield_at(step, place);
+    if step >= net.steps() {
+        return [0; MOST_PLACES];
     }
+    let places = net.places();
+    array::from_fn(|place| if place < usize::from(places) {
+        net.yield_at(step, place as u8)
+    } else {
+        0
+    })
 }
 
 /// Reads the yields of each step.
-pub(crate) fn read_yields<N: Net>(net: &N, yields: &mut [u8])
-    requires { length yields.old ≡ 8192 }
-    ensures { (t p : ℕ) → t < (N.meaning net.now).net.steps → p < (N.meaning net.now).net.places → at yields.new (cell t p) ≡ (N.meaning net.now).net.yields t p }
+pub(crate) fn read_yields<N: Net>(net: &N) -> [[u8; MOST_PLACES]; MOST_STEPS]
+    ensures { (t p : ℕ) → t < (N.meaning net.now).net.steps → p < (N.meaning net.now).net.places → cell result t p ≡ (N.meaning net.now).net.yields t p }
 {
-    for step in 0..net.steps() {
-        read_row(net, step, yields);
-    }
+    array::from_fn(
+        |step| -> [u8; MOST_PLACES]
+            requires { step < 128 }
+            ensures { (p : ℕ) → p < (N.meaning net.entry.now).net.places → at result p ≡ (N.meaning net.entry.now).net.yields step p }
+        { read_row(net, step as u16) },
+    )
 }

@@ -28,7 +28,7 @@ pub fn done_total(done: &[u16]) -> u64
     ensures answer { result ≡ sum_to (at done.now) 128 }
     ensures bound { result < 2 ^ 48 }
 {
-    sum_below(u16::from(MOST_STEPS), |step| u32::from(times(done, step)))
+    sum_below(MOST_STEPS as u16, |step| u32::from(times(done, step)))
 }
 
 /// All blocks that one firing of the step yields.

@@ -3,9 +3,9 @@ use Rattle.table_law.proofs.ReadTables.{Holds, same_net, inputs_within, yields_s
 use Rattle.tables.proofs.net_table.NetTable.read.Given as given
 use Rattle.tables.proofs.net_table.NetTable.read.Goals as goal
 
-holds : (g : given.Over) (c : goal.After-steps g) →
-    Holds (g.N.Net.meaning c.args.net.now).net c.places.result c.steps.result c.read_inputs.new.inputs
-    c.read_yields.new.yields
+holds : (g : given.Over) (c : goal.After-read_yields g) →
+    Holds (g.N.Net.meaning c.args.net.now).net c.places.result c.steps.result c.read_inputs.result
+    c.read_yields.result
 holds g c =
     record {
       places = c.places.ensures;
