@@ -1,12 +1,15 @@
 //! Checks: whether the rows of a call fit its net, and whether its sizes are within their limits.
 #![tactic(auto)]
 
-ghost use Rattle.std.specs.Prelude.{◌≡◌, ℕ};
+ghost use Rattle.std.specs.Prelude.{ℕ, Some, None, if◌then◌else◌};
 ghost use Rattle.answers.specs.Answers.{rows_fit, size_refusal};
 ghost use Rattle.answers.specs.Findings.{survey_refusal};
+ghost use Rattle.checks.specs.Checked.{Checked};
 ghost use Rattle.checks.specs.Held.{held, target_of};
+ghost use Rattle.refusals.specs.declared.Refusal.TheVariants.{RowsUnfit};
 ghost use Rattle.theory.specs.Firing.{Marking};
 
+use answers::Kind;
 use nets::net::Net;
 use refusals::Refusal;
 use totals::asked::{done_total, steps_asked, yields_asked};
@@ -17,70 +20,69 @@ pub const DONE_LIMIT: u64 = 65535;
 /// The fewest findings that the memory of a survey holds: one of each cause at each of 64 places.
 pub const FINDINGS_NEEDED: usize = 192;
 
-/// The kind of an at-least target; an exact one has kind 0, and there are no others.
-const AT_LEAST: u8 = 1;
-
 /// What the marking is to be after an order: a number for each place, and a kind.
 #[derive(Clone, Copy)]
 pub struct Target<'a> {
     pub numbers: &'a [u32],
+    /// The byte of a `Kind`: the calls take any, since they answer for an unknown one by a refusal.
     pub kind: u8,
 }
 
-/// Whether there are as many numbers as steps in the tally and as places in the target, and the kind is known.
-pub fn rows_fit<N: Net>(net: &N, tally: &[u16], target: Target<'_>) -> bool
-    ensures { result ≡ rows_fit (N.meaning net.now).net tally.now (target_of target.entry.numbers.now target.entry.kind) }
+/// The kind of the target; refused unless it is known, and there are as many numbers as steps in the
+/// tally and as places in the target.
+pub fn check_rows<N: Net>(net: &N, tally: &[u16], target: Target<'_>) -> Result<Kind, Refusal>
+    ensures { Checked (if rows_fit (N.meaning net.now).net tally.now (target_of target.entry.numbers.now target.entry.kind) then None else Some RowsUnfit) target.entry.kind result }
 {
-    tally.len() == net.steps() as usize
-        && target.numbers.len() == net.places() as usize
-        && target.kind <= AT_LEAST
+    if tally.len() != usize::from(net.steps()) {
+        return Err(Refusal::RowsUnfit);
+    }
+    if target.numbers.len() != usize::from(net.places()) {
+        return Err(Refusal::RowsUnfit);
+    }
+    Kind::try_from(target.kind)
 }
 
-/// Which size check of a resume fails first, if one does.
-pub fn size_refusal<N: Net>(
+/// The kind of the target of a resume, or the refusal of the first size check that fails.
+pub fn check_sizes<N: Net>(
     net: &N,
     spare: u32,
     done: &[u16],
     tally: &[u16],
     target: Target<'_>,
     memory: usize,
-) -> Option<Refusal>
-    ensures { (counts : Marking) → result ≡ size_refusal (N.meaning net.now).net (held counts spare done.now) tally.now (target_of target.entry.numbers.now target.entry.kind) memory }
+) -> Result<Kind, Refusal>
+    ensures { (counts : Marking) → Checked (size_refusal (N.meaning net.now).net (held counts spare done.now) tally.now (target_of target.entry.numbers.now target.entry.kind) memory) target.entry.kind result }
 {
-    if !rows_fit(net, tally, target) {
-        return Some(Refusal::RowsUnfit);
-    }
+    let kind = check_rows(net, tally, target)?;
     let asked = steps_asked(net, tally);
     if done_total(done) + asked > DONE_LIMIT {
-        return Some(Refusal::DoneLimit);
+        return Err(Refusal::DoneLimit);
     }
     if (memory as u64) < asked {
-        return Some(Refusal::OrderMemoryShort);
+        return Err(Refusal::OrderMemoryShort);
     }
-    if (spare as u64) < yields_asked(net, tally) {
-        return Some(Refusal::SpareShort);
+    if u64::from(spare) < yields_asked(net, tally) {
+        return Err(Refusal::SpareShort);
     }
-    None
+    Ok(kind)
 }
 
-/// Which check of a survey fails first, if one does.
-pub fn survey_refusal<N: Net>(
+/// The kind of the target of a survey, or the refusal of the first check that fails.
+pub fn check_survey<N: Net>(
     net: &N,
     done: &[u16],
     tally: &[u16],
     target: Target<'_>,
     memory: usize,
-) -> Option<Refusal>
-    ensures { (counts : Marking) (spare : ℕ) → result ≡ survey_refusal (N.meaning net.now).net (held counts spare done.now) tally.now (target_of target.entry.numbers.now target.entry.kind) memory }
+) -> Result<Kind, Refusal>
+    ensures { (counts : Marking) (spare : ℕ) → Checked (survey_refusal (N.meaning net.now).net (held counts spare done.now) tally.now (target_of target.entry.numbers.now target.entry.kind) memory) target.entry.kind result }
 {
-    if !rows_fit(net, tally, target) {
-        return Some(Refusal::RowsUnfit);
-    }
+    let kind = check_rows(net, tally, target)?;
     if done_total(done) + steps_asked(net, tally) > DONE_LIMIT {
-        return Some(Refusal::DoneLimit);
+        return Err(Refusal::DoneLimit);
     }
     if memory < FINDINGS_NEEDED {
-        return Some(Refusal::ListFull);
+        return Err(Refusal::ListFull);
     }
-    None
+    Ok(kind)
 }
