@@ -91,15 +91,15 @@ impl Refusal {
         ensures { result ≡ detail_of self }
     {
         match self {
-            Refusal::StepUnfit(step) => step,
-            Refusal::ArcUnfit(arc) => arc,
-            Refusal::StepWithoutYield(step) => step,
-            Refusal::Short(place) => place as u16,
-            Refusal::CutOff(place) => place as u16,
-            Refusal::Missed(place) => place as u16,
-            Refusal::InputEmpty(place) => place as u16,
-            Refusal::PlaceEmpty(place) => place as u16,
-            Refusal::PutAboveSpare(place) => place as u16,
+            Refusal::StepUnfit(number)
+            | Refusal::ArcUnfit(number)
+            | Refusal::StepWithoutYield(number) => number,
+            Refusal::Short(place)
+            | Refusal::CutOff(place)
+            | Refusal::Missed(place)
+            | Refusal::InputEmpty(place)
+            | Refusal::PlaceEmpty(place)
+            | Refusal::PutAboveSpare(place) => u16::from(place),
             _ => 0,
         }
     }
