@@ -43,6 +43,11 @@ TakeRefused place counts e = ((63 < place) × (e ≡ NoSuchPlace)) ⊎ ((place �
 abbrev pub PutRefused : ℕ → ℕ → ℕ → Refusal → Type 0
 PutRefused place n spare e = ((63 < place) × (e ≡ NoSuchPlace)) ⊎ ((place ≤ 63) × (spare < n) × (e ≡ PutAboveSpare place))
 
+-- which index a place gets, and why it gets none
+abbrev pub IndexSays : ℕ → Result ℕ Refusal → Type 0
+IndexSays place (Ok i) = (place ≤ 63) × (i ≡ place)
+IndexSays place (Err e) = (63 < place) × (e ≡ NoSuchPlace)
+
 -- what take answers, from the counts and spare before it to those after it
 abbrev pub TakeSays : {X : Type 0} → ℕ → (ℕ → ℕ) → ℕ → Result X Refusal → (ℕ → ℕ) → ℕ → Type 0
 TakeSays place counts spare (Ok x) counts' spare' = Taken place counts spare counts' spare'

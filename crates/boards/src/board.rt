@@ -1,6 +1,6 @@
 //! What every board means, the law that every board keeps, and its four calls.
 ghost use Rattle.std.specs.Prelude.{◌≡◌, ℕ, ◌<◌};
-ghost use Rattle.boards.specs.Boards.{BoardLaw, TakeSays, PutSays};
+ghost use Rattle.boards.specs.Boards.{BoardLaw, IndexSays, TakeSays, PutSays};
 
 use refusals::Refusal;
 
@@ -9,6 +9,16 @@ pub const PLACES: usize = 64;
 
 /// The highest place of a board.
 pub const LAST_PLACE: u8 = 63;
+
+/// The place as an index into a row of all places; refused above place 63.
+pub fn index_of(place: u8) -> Result<usize, Refusal>
+    ensures answer { IndexSays place result }
+{
+    if place > LAST_PLACE {
+        return Err(Refusal::NoSuchPlace);
+    }
+    Ok(usize::from(place))
+}
 
 /// What the counts of a board and its spare add up to at most.
 pub const BOARD_LIMIT: u32 = 2_147_483_647;

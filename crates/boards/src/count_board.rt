@@ -6,7 +6,7 @@ ghost use Rattle.boards.specs.Rows.{at_place, LoadSays};
 ghost use Rattle.std.proofs.Common.{arith, rules};
 ghost use Rattle.std.proofs.lemmas.List.{get_or_past};
 
-use crate::board::{BOARD_LIMIT, Board, LAST_PLACE, PLACES};
+use crate::board::{BOARD_LIMIT, Board, PLACES, index_of};
 use refusals::Refusal;
 
 /// A board that keeps the 64 counts and spare as numbers.
@@ -35,10 +35,7 @@ impl CountBoard {
     pub fn load(&mut self, row: &[u32], spare: u32) -> Result<(), Refusal>
         ensures answer { LoadSays row.now spare (at_place self.old.counts) self.old.spare result (at_place self.new.counts) self.new.spare }
     {
-        if row.len() != PLACES {
-            return Err(Refusal::BoardRowUnfit);
-        }
-        if total(row) + u64::from(spare) > u64::from(BOARD_LIMIT) {
+        if row.len() != PLACES || total(row) + u64::from(spare) > u64::from(BOARD_LIMIT) {
             return Err(Refusal::BoardRowUnfit);
         }
         self.counts.copy_from_slice(row);
@@ -53,11 +50,7 @@ fn total(row: &[u32]) -> u64
     ensures value { result ≡ sum_to (at_place row.now) 64 }
     ensures bound { result ≤ 64 * 4294967295 }
 {
-    let mut sum: u64 = 0;
-    for count in row {
-        sum += u64::from(*count);
-    }
-    sum
+    row.iter().map(|count| u64::from(*count)).sum()
 }
 
 impl Board for CountBoard {
@@ -70,10 +63,7 @@ impl Board for CountBoard {
     ghost bounded = { Prim.search rules };
 
     fn count(&self, place: u8) -> u32 {
-        if place > LAST_PLACE {
-            return 0;
-        }
-        self.counts[place as usize]
+        self.counts.get(usize::from(place)).copied().unwrap_or(0)
     }
 
     fn spare(&self) -> u32 {
@@ -81,28 +71,21 @@ impl Board for CountBoard {
     }
 
     fn take(&mut self, place: u8) -> Result<(), Refusal> {
-        if place > LAST_PLACE {
-            return Err(Refusal::NoSuchPlace);
-        }
-        let i = place as usize;
-        if self.counts[i] == 0 {
-            return Err(Refusal::PlaceEmpty(place));
-        }
-        self.counts[i] -= 1;
+        let i = index_of(place)?;
+        self.counts[i] = self.counts[i]
+            .checked_sub(1)
+            .ok_or(Refusal::PlaceEmpty(place))?;
         self.spare += 1;
         Ok(())
     }
 
     fn put(&mut self, place: u8, n: u32) -> Result<(), Refusal> {
-        if place > LAST_PLACE {
-            return Err(Refusal::NoSuchPlace);
-        }
-        if n > self.spare {
-            return Err(Refusal::PutAboveSpare(place));
-        }
-        let i = place as usize;
+        let i = index_of(place)?;
+        self.spare = self
+            .spare
+            .checked_sub(n)
+            .ok_or(Refusal::PutAboveSpare(place))?;
         self.counts[i] += n;
-        self.spare -= n;
         Ok(())
     }
 }

@@ -1,22 +1,15 @@
-use Rattle.std.proofs.Common.{◌≡◌, ap, arith}
-use Rattle.theory.specs.Sums.{sum_to}
-use Rattle.theory.proofs.SumLaws.{sum_to_suc, sum_to_zero}
-use Rattle.boards.specs.Rows.{at_place}
+use Rattle.std.proofs.Common.{◌≡◌, ◌∙◌, sum, rules, arith}
+use Rattle.std.proofs.iter.runs.Sources.{sums}
+use Rattle.boards.proofs.RowSums.{sum_row, sum_row_le}
 use Rattle.boards.proofs.count_board.total.Goals as goal
 
-pub loop-count-init : goal.loop-count-init
-loop-count-init c = (omega (arith, sum_to_zero (at_place c.args.row.now)), omega arith)
+pub sum-requires-clause-fits : goal.sum-requires-clause-fits
+sum-requires-clause-fits c = search (rules, sums)
 
-pub loop-count-preserved : goal.loop-count-preserved
-loop-count-preserved c =
-    let row = c.args.row.now in
-    let i = c.loop-count.count-index in
-    let inv = c.loop-count.invariant in
-    (omega (arith, inv.0, sum_to_suc (at_place row) i), omega (arith, inv.1, c.type_inv.row i))
+pub returns-clause-value : goal.returns-clause-value
+returns-clause-value c =
+    let e : c.sum.result ≡ sum c.args.row.now = search rules in e ∙ sum_row c.args.row.now 64 c.requires
 
-pub returns : goal.returns
-returns c =
-    let row = c.args.row.now in
-    let inv = c.loop-count.invariant in
-    let e : c.loop-count.count-index ≡ 64 = omega (arith, c.requires) in
-    record { value = omega (arith, inv.0, ap (sum_to (at_place row)) e); bound = omega (arith, inv.1, e) }
+pub returns-clause-bound : goal.returns-clause-bound
+returns-clause-bound c =
+    let e : c.sum.result ≡ sum c.args.row.now = search rules in omega (arith, e, sum_row c.args.row.now 64 c.requires, sum_row_le c.args.row.now 4294967295 64 (λ k. omega (arith, c.type_inv.row k)))
