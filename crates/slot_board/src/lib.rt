@@ -1,15 +1,16 @@
 //! The slot board: 4,096 slots, each empty or with one block of a place.
 #![tactic(auto)]
 
-ghost use Rattle.std.specs.Prelude.{◌≡◌, ℕ, ◌+◌, ◌≤◌, length, replicate, MatchBool, MatchOption, OnOk, slice_index};
+ghost use Rattle.std.specs.Prelude.{◌≡◌, ℕ, ◌+◌, ◌≤◌, length, replicate, MatchBool, MatchOption, MatchResult, OnOk, slice_index};
 ghost use Rattle.boards.specs.Boards.{TakeSays, PutSays};
 ghost use Rattle.slot_board.specs.Slots.{occurs, counts_of, lowest_with, slots_after_take, slots_after_put};
 ghost use Rattle.slot_board.specs.Passes.{Absent, FirstAt, HighestFilled, TakenSlot, PutSlots};
 ghost use Rattle.slot_board.specs.Loads.{SlotsFit, LoadSays};
+ghost use Rattle.refusals.specs.declared.Refusal.TheVariants.{PlaceEmpty};
 ghost use Rattle.std.proofs.Common.{arith};
 ghost use Rattle.slot_board.specs.Occurs.{occurs_absent, all_le_length};
 
-use boards::board::{Board, LAST_PLACE};
+use boards::board::{Board, LAST_PLACE, index_of};
 use refusals::Refusal;
 
 /// How many slots there are, numbered from 0.
@@ -68,15 +69,7 @@ impl SlotBoard {
 fn fit(bytes: &[u8]) -> bool
     ensures { MatchBool result (SlotsFit bytes.now) (SlotsFit bytes.now → ⊥) }
 {
-    if bytes.len() != SLOTS {
-        return false;
-    }
-    for byte in bytes {
-        if *byte > HIGHEST {
-            return false;
-        }
-    }
-    true
+    bytes.len() == SLOTS && bytes.iter().all(|byte| *byte <= HIGHEST)
 }
 
 // how many slots hold the number
@@ -84,40 +77,27 @@ fn count_of(slots: &[u8], held: u8) -> u32
     requires { length slots.now ≡ 4096 }
     ensures { result ≡ occurs held slots.now }
 {
-    let mut n = 0;
-    for slot in slots {
-        if *slot == held {
-            n += 1;
-        }
-    }
-    n
+    slots.iter().filter(|slot| **slot == held).count() as u32
 }
 
 // the lowest slot that holds the number
 fn lowest(slots: &[u8], held: u8) -> Option<usize>
     ensures { MatchOption result (Absent held slots.now) (λ i. FirstAt held slots.now i) }
 {
-    for i in 0..slots.len() {
-        if slots[i] == held {
-            return Some(i);
-        }
-    }
-    None
+    slots.iter().position(|slot| *slot == held)
 }
 
-// empties the place's lowest slot; answers false, and changes nothing, where it has none
-fn empty_lowest(slots: &mut [u8], place: u8) -> bool
+// empties the place's lowest slot; refused, and nothing changed, where it has none
+fn empty_lowest(slots: &mut [u8], place: u8) -> Result<(), Refusal>
     requires fit { SlotsFit slots.old }
     requires inside { place ≤ 63 }
     ensures fit { SlotsFit slots.new }
     ensures few { occurs 0 slots.new ≤ 4096 }
-    ensures cases { MatchBool result (TakenSlot place slots.old slots.new) ((counts_of slots.old place ≡ 0) × (slots.new ≡ slots.old)) }
+    ensures answer { MatchResult result (λ _. TakenSlot place slots.old slots.new) (λ e. (counts_of slots.old place ≡ 0) × (slots.new ≡ slots.old) × (e ≡ PlaceEmpty place)) }
 {
-    let Some(i) = lowest(slots, place + 1) else {
-        return false;
-    };
+    let i = lowest(slots, place + 1).ok_or(Refusal::PlaceEmpty(place))?;
     slots[i] = EMPTY;
-    true
+    Ok(())
 }
 
 // puts n blocks of the place into empty slots, from the highest down
@@ -129,6 +109,7 @@ fn fill_highest(slots: &mut [u8], place: u8, n: u32)
     ensures moved { PutSlots place n slots.old slots.new }
 {
     let mut left = n;
+    // by index: after `iter_mut().rev()` a proof knows how many slots there are, and none of what they hold
     for i in (0..slots.len()).rev() {
         if left == 0 {
             return;
@@ -165,12 +146,8 @@ impl Board for SlotBoard {
         ensures slots { self.new.slots ≡ slots_after_take place result self.old.slots }
         ensures lowest { OnOk result (FirstAt (place + 1) self.old.slots (lowest_with (place + 1) self.old.slots)) }
     {
-        if place > LAST_PLACE {
-            return Err(Refusal::NoSuchPlace);
-        }
-        if !empty_lowest(&mut self.slots, place) {
-            return Err(Refusal::PlaceEmpty(place));
-        }
+        index_of(place)?;
+        empty_lowest(&mut self.slots, place)?;
         self.free += 1;
         Ok(())
     }
@@ -180,14 +157,13 @@ impl Board for SlotBoard {
         ensures slots { self.new.slots ≡ slots_after_put place n result self.old.slots }
         ensures highest { OnOk result (HighestFilled (place + 1) self.old.slots self.new.slots) }
     {
-        if place > LAST_PLACE {
-            return Err(Refusal::NoSuchPlace);
-        }
-        if n > self.free {
-            return Err(Refusal::PutAboveSpare(place));
-        }
+        index_of(place)?;
+        let free = self
+            .free
+            .checked_sub(n)
+            .ok_or(Refusal::PutAboveSpare(place))?;
         fill_highest(&mut self.slots, place, n);
-        self.free -= n;
+        self.free = free;
         Ok(())
     }
 }
