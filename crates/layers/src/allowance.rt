@@ -4,7 +4,7 @@ ghost use Rattle.boards.specs.Boards.{board_limit, TakeSays, PutSays};
 ghost use Rattle.layers.specs.Allowances.{left_after_take, left_after_put, PutLeaves};
 ghost use Rattle.std.proofs.Common.{rules, arith};
 
-use boards::board::{BOARD_LIMIT, Board, LAST_PLACE};
+use boards::board::{BOARD_LIMIT, Board, index_of};
 use refusals::Refusal;
 
 /// A board over another, of whose spare no more than the number left may be used.
@@ -31,8 +31,7 @@ impl<B: Board> Allowance<B> {
     pub fn into_inner(self) -> B
         ensures below { result ≡ self.below }
     {
-        let Allowance { below, left: _ } = self;
-        below
+        self.below
     }
 }
 
@@ -54,30 +53,27 @@ impl<B: Board> Board for Allowance<B> {
     }
 
     fn take(&mut self, place: u8) -> Result<(), Refusal>
-        ensures answer { TakeSays place (B.counts self.old.below) (min self.old.left (B.spare self.old.below)) result (B.counts self.new.below) (min self.new.left (B.spare self.new.below)) }
+        ensures answer { let old = self.old in let new = self.new in TakeSays place (B.counts old.below) (min old.left (B.spare old.below)) result (B.counts new.below) (min new.left (B.spare new.below)) }
         ensures left { self.new.left ≡ left_after_take result self.old.left }
-        ensures below { TakeSays place (B.counts self.old.below) (B.spare self.old.below) result (B.counts self.new.below) (B.spare self.new.below) }
+        ensures below { let old = self.old in let new = self.new in TakeSays place (B.counts old.below) (B.spare old.below) result (B.counts new.below) (B.spare new.below) }
     {
         self.below.take(place)?;
-        if self.left < BOARD_LIMIT {
-            self.left += 1;
-        }
+        self.left = (self.left + 1).min(BOARD_LIMIT);
         Ok(())
     }
 
     fn put(&mut self, place: u8, n: u32) -> Result<(), Refusal>
-        ensures answer { PutSays place n (B.counts self.old.below) (min self.old.left (B.spare self.old.below)) result (B.counts self.new.below) (min self.new.left (B.spare self.new.below)) }
+        ensures answer { let old = self.old in let new = self.new in PutSays place n (B.counts old.below) (min old.left (B.spare old.below)) result (B.counts new.below) (min new.left (B.spare new.below)) }
         ensures left { self.new.left ≡ left_after_put n result self.old.left }
-        ensures below { PutLeaves place n (B.counts self.old.below) (B.spare self.old.below) result (B.counts self.new.below) (B.spare self.new.below) }
+        ensures below { let old = self.old in let new = self.new in PutLeaves place n (B.counts old.below) (B.spare old.below) result (B.counts new.below) (B.spare new.below) }
     {
-        if place > LAST_PLACE {
-            return Err(Refusal::NoSuchPlace);
-        }
-        if n > self.left {
-            return Err(Refusal::PutAboveSpare(place));
-        }
+        index_of(place)?;
+        let left = self
+            .left
+            .checked_sub(n)
+            .ok_or(Refusal::PutAboveSpare(place))?;
         self.below.put(place, n)?;
-        self.left -= n;
+        self.left = left;
         Ok(())
     }
 }

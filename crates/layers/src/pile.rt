@@ -4,7 +4,7 @@ ghost use Rattle.layers.specs.Piles.{MoveSays, MoveAnswers, counts_after_move};
 
 use crate::allowance::Allowance;
 use crate::renaming::Renaming;
-use boards::board::{Board, LAST_PLACE};
+use boards::board::{Board, index_of};
 use refusals::Refusal;
 
 /// Moves one block from one place of a board to another.
@@ -13,9 +13,7 @@ pub fn move_block<B: Board>(board: &mut B, from: u8, to: u8) -> Result<(), Refus
     ensures counts { (p : ℕ) → B.counts board.new p ≡ counts_after_move from to result (B.counts board.old) p }
     ensures spare { B.spare board.new ≡ B.spare board.old }
 {
-    if to > LAST_PLACE {
-        return Err(Refusal::NoSuchPlace);
-    }
+    index_of(to)?;
     board.take(from)?;
     board.put(to, 1)
 }

@@ -7,17 +7,16 @@ ghost use Rattle.std.proofs.lemmas.Bool.{cond-true, lt-ltb};
 ghost use Rattle.theory.proofs.SumLaws.{sum_to_same};
 ghost use Rattle.layers.specs.Permuted.{sum_to_permuted};
 
-use boards::board::{Board, LAST_PLACE, PLACES};
+use boards::board::{Board, PLACES, index_of};
 use refusals::Refusal;
+use std::array;
 
 /// A board over another: the row says for each place which one below it stands for.
 #[derive(Drop)]
 pub struct Renaming<B: Board> {
     below: B,
     row: [u8; PLACES],
-    ghost long: { length row ≡ 64 },
-    ghost inside: { (p : ℕ) → p < 64 → slice_index row p < 64 },
-    ghost apart: { (p q : ℕ) → (p < 64) × (q < 64) × (slice_index row p ≡ slice_index row q) → p ≡ q },
+    ghost lawful: { IsRenaming row },
 }
 
 impl<B: Board> Renaming<B> {
@@ -26,11 +25,10 @@ impl<B: Board> Renaming<B> {
         ensures below { result.below ≡ below }
         ensures row { (p : ℕ) → p < 64 → slice_index result.row p ≡ p }
     {
-        let mut row = [0u8; PLACES];
-        for p in 0..=LAST_PLACE {
-            row[p as usize] = p;
+        Renaming {
+            below,
+            row: array::from_fn(|p| p as u8),
         }
-        Renaming { below, row }
     }
 
     /// Takes over the row; refused, and nothing changed, unless it has each of the 64 places once.
@@ -49,8 +47,7 @@ impl<B: Board> Renaming<B> {
     pub fn into_inner(self) -> B
         ensures below { result ≡ self.below }
     {
-        let Renaming { below, row: _ } = self;
-        below
+        self.below
     }
 }
 
@@ -63,10 +60,11 @@ fn is_renaming(row: &[u8]) -> bool
     }
     let mut seen = [false; PLACES];
     for place in row {
-        if *place > LAST_PLACE || seen[*place as usize] {
+        let i = usize::from(*place);
+        if i >= PLACES || seen[i] {
             return false;
         }
-        seen[*place as usize] = true;
+        seen[i] = true;
     }
     true
 }
@@ -82,14 +80,13 @@ impl<B: Board> Board for Renaming<B> {
         let h = B.Board.counts b.below in
         let m : ℕ → ℕ = λ p. slice_index_or b.row p 0 in
         let inner = sum_to_same (renamed b.row h) (λ p. h (m p)) 64 (λ p l. cond-true (nat_lt p 64) (h (m p)) 0 (lt-ltb p 64 l)) in
-        let same = sum_to_permuted m h 64 b.inside (λ p q l k e. b.apart p q (l, k, e)) in
+        let same = sum_to_permuted m h 64 b.lawful.inside b.lawful.apart in
         omega (arith, inner ∙ same, B.Board.bounded b.below) };
 
     fn count(&self, place: u8) -> u32 {
-        if place > LAST_PLACE {
-            return 0;
-        }
-        self.below.count(self.row[place as usize])
+        self.row
+            .get(usize::from(place))
+            .map_or(0, |below| self.below.count(*below))
     }
 
     fn spare(&self) -> u32 {
@@ -97,28 +94,22 @@ impl<B: Board> Board for Renaming<B> {
     }
 
     fn take(&mut self, place: u8) -> Result<(), Refusal>
-        ensures answer { TakeSays place (renamed self.old.row (B.counts self.old.below)) (B.spare self.old.below) result (renamed self.new.row (B.counts self.new.below)) (B.spare self.new.below) }
+        ensures answer { let old = self.old in let new = self.new in TakeSays place (renamed old.row (B.counts old.below)) (B.spare old.below) result (renamed new.row (B.counts new.below)) (B.spare new.below) }
         ensures row { self.new.row ≡ self.old.row }
     {
-        if place > LAST_PLACE {
-            return Err(Refusal::NoSuchPlace);
-        }
-        match self.below.take(self.row[place as usize]) {
-            Ok(()) => Ok(()),
-            Err(_) => Err(Refusal::PlaceEmpty(place)),
-        }
+        let i = index_of(place)?;
+        self.below
+            .take(self.row[i])
+            .map_err(|_| Refusal::PlaceEmpty(place))
     }
 
     fn put(&mut self, place: u8, n: u32) -> Result<(), Refusal>
-        ensures answer { PutSays place n (renamed self.old.row (B.counts self.old.below)) (B.spare self.old.below) result (renamed self.new.row (B.counts self.new.below)) (B.spare self.new.below) }
+        ensures answer { let old = self.old in let new = self.new in PutSays place n (renamed old.row (B.counts old.below)) (B.spare old.below) result (renamed new.row (B.counts new.below)) (B.spare new.below) }
         ensures row { self.new.row ≡ self.old.row }
     {
-        if place > LAST_PLACE {
-            return Err(Refusal::NoSuchPlace);
-        }
-        match self.below.put(self.row[place as usize], n) {
-            Ok(()) => Ok(()),
-            Err(_) => Err(Refusal::PutAboveSpare(place)),
-        }
+        let i = index_of(place)?;
+        self.below
+            .put(self.row[i], n)
+            .map_err(|_| Refusal::PutAboveSpare(place))
     }
 }

@@ -8,7 +8,7 @@ loop-place-init c = seen_none c.args.row.now
 pub loop-place-preserved : goal.loop-place-preserved
 loop-place-preserved c =
     let loop = c.loop-place in
-    seen_more c.args.row.now loop.place-index loop.seen loop.invariant (omega arith) c.if-seen-place.false
+    rw c.from-i.ensures (seen_more c.args.row.now loop.place-index loop.seen loop.invariant (omega arith) (rw c.from-i.ensures at c.if-seen-i.false))
 
 pub returns : goal.returns
 returns c =
