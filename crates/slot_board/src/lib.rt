@@ -28,8 +28,7 @@ pub struct SlotBoard {
     slots: [u8; SLOTS],
     // how many slots are empty, kept so that spare and put need not count them
     free: u32,
-    ghost long: { length slots ≡ 4096 },
-    ghost small: { (k : ℕ) → slice_index slots k ≤ 64 },
+    ghost fit: { SlotsFit slots },
     ghost counted: { free ≡ occurs 0 slots },
 }
 
@@ -126,9 +125,9 @@ impl Board for SlotBoard {
 
     ghost spare = { λ b. occurs 0 b.slots };
 
-    ghost outside = { λ b p h. occurs_absent (p + 1) b.slots (λ k l e. omega (arith, b.small k, e, h)) };
+    ghost outside = { λ b p h. occurs_absent (p + 1) b.slots (λ k l e. omega (arith, b.fit.small k, e, h)) };
 
-    ghost bounded = { λ b. omega (arith, all_le_length 64 b.slots, b.long) };
+    ghost bounded = { λ b. omega (arith, all_le_length 64 b.slots, b.fit.long) };
 
     fn count(&self, place: u8) -> u32 {
         if place > LAST_PLACE {
