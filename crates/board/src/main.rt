@@ -6,7 +6,7 @@ mod lines;
 
 use boards::board::Board;
 use boards::count_board::CountBoard;
-use calls::{Answer, answer_of, perform};
+use calls::{Answer, perform};
 use desk::Desk;
 use layers::allowance::Allowance;
 use layers::renaming::Renaming;
@@ -24,13 +24,13 @@ fn main(rt: HostRuntime) -> anyhow::Result<()> {
             Line::LoadCounts(row, spare) => {
                 let mut board = CountBoard::new();
                 let done = board.load(row.as_slice(), spare);
-                desk.show(&board, answer_of(done))?;
+                desk.show(&board, Answer::from(done))?;
                 let _ = on_board(&mut desk, board)?;
             }
             Line::LoadSlots(row) => {
                 let mut board = SlotBoard::new();
                 let done = board.load(row.as_slice());
-                desk.show(&board, answer_of(done))?;
+                desk.show(&board, Answer::from(done))?;
                 let _ = on_board(&mut desk, board)?;
             }
             _ => break,
@@ -63,7 +63,7 @@ macro_rules! on_layers {
             Line::Rename(row) => {
                 let mut layer = Renaming::new(below);
                 let done = layer.load(row.as_slice());
-                $desk.show(&layer, answer_of(done))?;
+                $desk.show(&layer, Answer::from(done))?;
                 Ok($above($desk, layer)?.into_inner())
             }
             Line::Allow(left) => {

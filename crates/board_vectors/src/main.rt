@@ -6,7 +6,7 @@ mod table;
 
 use boards::board::Board;
 use boards::count_board::CountBoard;
-use calls::{Answer, all_counts, answer_of, perform};
+use calls::{Answer, all_counts, perform};
 use layers::allowance::Allowance;
 use layers::renaming::Renaming;
 use rows::Row;
@@ -37,7 +37,7 @@ fn count_pile(table: &mut Table<'_>) -> anyhow::Result<()> {
             break;
         };
         let done = board.load(row.as_slice(), spare);
-        table.compare(&board, answer_of(done))?;
+        table.compare(&board, Answer::from(done))?;
     }
     let board = on_board(table, board)?;
     let kept = digest(&all_counts(&board));
@@ -53,7 +53,7 @@ fn slot_pile(table: &mut Table<'_>) -> anyhow::Result<()> {
             break;
         };
         let done = board.load(row.as_slice());
-        table.compare(&board, answer_of(done))?;
+        table.compare(&board, Answer::from(done))?;
     }
     let board = on_board(table, board)?;
     let kept = digest_bytes(board.slots());
@@ -82,7 +82,7 @@ macro_rules! on_layers {
             Row::Rename(row) => {
                 let mut layer = Renaming::new(below);
                 let done = layer.load(row.as_slice());
-                $table.compare(&layer, answer_of(done))?;
+                $table.compare(&layer, Answer::from(done))?;
                 Ok($above($table, layer)?.into_inner())
             }
             Row::Allow(left) => {

@@ -1,12 +1,12 @@
 //! Calls as values, made on any board, and all 64 counts of any board.
 #![tactic(auto)]
 
-ghost use Rattle.std.specs.Prelude.{◌≡◌, ℕ, ◌<◌, Some, slice_index};
+ghost use Rattle.std.specs.Prelude.{◌≡◌, ℕ, Some, slice_index};
 ghost use Rattle.calls.specs.Calls.{Performed, answered, shown_answer};
 
-use boards::board::{Board, LAST_PLACE, PLACES};
+use boards::board::{Board, PLACES};
 use refusals::Refusal;
-use std::fmt;
+use std::{array, fmt};
 
 /// A call on a board.
 #[derive(Clone, Copy)]
@@ -18,6 +18,7 @@ pub enum Call {
 }
 
 /// What a call answers: a number, that it was accepted, or a refusal.
+// no Result over an Option, though it has that shape: all three are printed, by the one Display below
 #[derive(Clone, Copy)]
 pub enum Answer {
     Number(u32),
@@ -29,34 +30,30 @@ pub enum Answer {
 pub fn perform<B: Board>(board: &mut B, call: Call) -> Answer
     ensures answer { Performed call (B.counts board.old) (B.spare board.old) result (B.counts board.new) (B.spare board.new) }
 {
-    let done = match call {
-        Call::Count(place) => return Answer::Number(board.count(place)),
-        Call::Spare => return Answer::Number(board.spare()),
-        Call::Take(place) => board.take(place),
-        Call::Put(place, n) => board.put(place, n),
-    };
-    answer_of(done)
+    match call {
+        Call::Count(place) => Answer::Number(board.count(place)),
+        Call::Spare => Answer::Number(board.spare()),
+        Call::Take(place) => Answer::from(board.take(place)),
+        Call::Put(place, n) => Answer::from(board.put(place, n)),
+    }
 }
 
 /// The counts of the 64 places.
 pub fn all_counts<B: Board>(board: &B) -> [u32; PLACES]
-    ensures answer { (p : ℕ) → p < 64 → slice_index result p ≡ B.counts board.now p }
-    ensures everywhere { (p : ℕ) → slice_index result p ≡ B.counts board.now p }
+    ensures answer { (p : ℕ) → slice_index result p ≡ B.counts board.now p }
 {
-    let mut counts = [0u32; PLACES];
-    for place in 0..=LAST_PLACE {
-        counts[place as usize] = board.count(place);
-    }
-    counts
+    array::from_fn(|place| board.count(place as u8))
 }
 
 /// The answer of a take, a put or a load.
-pub fn answer_of(done: Result<(), Refusal>) -> Answer
-    ensures answer { result ≡ answered done }
-{
-    match done {
-        Ok(()) => Answer::Accepted,
-        Err(refusal) => Answer::Refused(refusal),
+impl From<Result<(), Refusal>> for Answer {
+    ghost from_gives = { λ done answer. answer ≡ answered done };
+
+    fn from(done: Result<(), Refusal>) -> Answer {
+        match done {
+            Ok(()) => Answer::Accepted,
+            Err(refusal) => Answer::Refused(refusal),
+        }
     }
 }
 

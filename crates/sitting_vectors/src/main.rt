@@ -10,7 +10,7 @@ mod table;
 use anyhow::anyhow;
 use boards::board::Board;
 use boards::count_board::CountBoard;
-use calls::{Answer, all_counts, answer_of};
+use calls::{Answer, all_counts};
 use digests::Digest;
 use layers::allowance::Allowance;
 use layers::renaming::Renaming;
@@ -61,7 +61,7 @@ fn loads(table: &mut Table<'_>, loaded: Result<(), Refusal>) -> anyhow::Result<b
     if loaded.is_err() {
         table.totals.refuse_file();
     }
-    table.compare(answer_of(loaded))?;
+    table.compare(Answer::from(loaded))?;
     Ok(loaded.is_ok())
 }
 
@@ -72,13 +72,13 @@ fn on_net<N: Net + Drop>(table: &mut Table<'_>, net: N) -> anyhow::Result<()> {
         Row::Counts(spare, row) => {
             let mut board = CountBoard::new();
             let loaded = board.load(row.as_slice(), spare);
-            table.compare(answer_of(loaded))?;
+            table.compare(Answer::from(loaded))?;
             digest.add_all(&all_counts(&on_board(table, net, board)?));
         }
         Row::Slots(row) => {
             let mut board = SlotBoard::new();
             let loaded = board.load(row.as_slice());
-            table.compare(answer_of(loaded))?;
+            table.compare(Answer::from(loaded))?;
             digest.add_bytes(on_board(table, net, board)?.slots());
         }
         _ => return Err(anyhow!("a net without a board")),
@@ -93,7 +93,7 @@ macro_rules! on_layers {
             Row::Rename(row) => {
                 let mut layer = Renaming::new($board);
                 let loaded = layer.load(row.as_slice());
-                $table.compare(answer_of(loaded))?;
+                $table.compare(Answer::from(loaded))?;
                 Ok($above($table, $net, layer)?.into_inner())
             }
             Row::Allow(left) => {

@@ -5,7 +5,7 @@ use crate::summary::Kind;
 use crate::table::Table;
 use answers::{Cause, Finding};
 use boards::board::Board;
-use calls::{Answer, all_counts, answer_of};
+use calls::{Answer, all_counts};
 use checks::Target;
 use nets::net::Net;
 use refusals::Refusal;
@@ -48,7 +48,7 @@ fn fire<N: Net, B: Board>(
     sitting: &mut Sitting<N, B>,
     step: u16,
 ) -> anyhow::Result<()> {
-    let answer = answer_of(sitting.fire(step));
+    let answer = Answer::from(sitting.fire(step));
     table.totals.note(Kind::Fire, answer);
     table.compare_state(answer, digest_of(sitting).value())
 }

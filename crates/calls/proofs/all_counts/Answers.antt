@@ -1,25 +1,18 @@
-use Rattle.std.proofs.Common.{ℕ, ◌<◌, ◌≢◌, length, sym, ◌∙◌, ⊎_elim, arith, length-set, get_or-set_other, get_or-set_same, below_more}
+use Rattle.std.proofs.Common.{◌≡◌, ◌<◌, length, sym, ◌∙◌, ⊎_elim, arith, rules}
 use Rattle.std.proofs.lemmas.List.{get_or_past}
 use Rattle.std.proofs.lemmas.Bool.{cases_lt}
+use Rattle.theory.proofs.Filled.{filled_at}
 use Rattle.calls.proofs.all_counts.Goals as goal
-
-pub loop-place-preserved : goal.loop-place-preserved
-loop-place-preserved g c =
-    let i = c.loop-place.place in
-    let lt : i < length c.loop-place.counts = omega (arith, c.loop-place.invariant.0) in (
-      length-set c.loop-place.counts i _ ∙ c.loop-place.invariant.0,
-      below_more _ _ (λ k h. let ne : k ≢ i = omega arith in rw get_or-set_other (c.loop-place.invariant.1 k h)) (rw get_or-set_same c.count.ensures.answer),
-    )
 
 pub returns : goal.returns
 returns g c =
-    let row = c.loop-place.counts in
-    let read = λ (p : ℕ) (h : p < 64). c.loop-place.invariant.1 p (omega arith) in
+    let row = c.from_fn.result in
+    let counts = g.B.Board.counts c.args.board.now in
+    let long : length row ≡ 64 = search rules in
     record {
-      answer = read;
-      everywhere = λ p.
+      answer = λ p.
           ⊎_elim
-          (read p)
-          (λ h. get_or_past row p 0 (omega (arith, c.loop-place.invariant.0)) ∙ sym (g.met.B.Board.outside c.args.board.now p (omega arith)))
+          (λ (h : p < 64). filled_at _ _ (λ x. counts x) (λ x r q e. search rules) c.from_fn.ensures.items p 0 h)
+          (λ h. get_or_past row p 0 (omega arith) ∙ sym (g.met.B.Board.outside c.args.board.now p (omega arith)))
           (cases_lt p 64);
     }

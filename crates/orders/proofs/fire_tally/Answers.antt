@@ -39,7 +39,7 @@ returns-in-Some-cause_refusal g c =
     let s = held H R done in
     let size : c.size_refusal.result ≡ size_refusal N.net s tally T (length memory) =
     c.size_refusal.ensures H ∙ ap (λ z. size_refusal N.net (held H z done) tally T (length memory)) c.spare.ensures.answer in
-    let counted : at c.all_counts-counts.result ≡ H = fun_ext c.all_counts-counts.ensures.everywhere in
+    let counted : at c.all_counts-counts.result ≡ H = fun_ext c.all_counts-counts.ensures.answer in
     let cause : c.cause_refusal.result ≡ cause_refusal N.net H (at tally) T =
     c.cause_refusal.ensures ∙ ap (λ z. cause_refusal N.net z (at tally) T) counted in
     refused_tally N.net s tally T memory c.in-Some-cause_refusal.refusal
@@ -58,7 +58,7 @@ fire_first_order-requires g c =
     let s = held H R done in
     let size : c.size_refusal.result ≡ size_refusal N.net s tally T (length memory) =
     c.size_refusal.ensures H ∙ ap (λ z. size_refusal N.net (held H z done) tally T (length memory)) c.spare.ensures.answer in
-    let counted : at c.all_counts-counts.result ≡ H = fun_ext c.all_counts-counts.ensures.everywhere in
+    let counted : at c.all_counts-counts.result ≡ H = fun_ext c.all_counts-counts.ensures.answer in
     let cause : c.cause_refusal.result ≡ cause_refusal N.net H (at tally) T =
     c.cause_refusal.ensures ∙ ap (λ z. cause_refusal N.net z (at tally) T) counted in
     let none : resume_refusal N.net s tally T (length memory) ≡ None =
@@ -86,7 +86,7 @@ returns g c =
     let s = held H R done in
     let size : c.size_refusal.result ≡ size_refusal N.net s tally T (length memory) =
     c.size_refusal.ensures H ∙ ap (λ z. size_refusal N.net (held H z done) tally T (length memory)) c.spare.ensures.answer in
-    let counted : at c.all_counts-counts.result ≡ H = fun_ext c.all_counts-counts.ensures.everywhere in
+    let counted : at c.all_counts-counts.result ≡ H = fun_ext c.all_counts-counts.ensures.answer in
     let cause : c.cause_refusal.result ≡ cause_refusal N.net H (at tally) T =
     c.cause_refusal.ensures ∙ ap (λ z. cause_refusal N.net z (at tally) T) counted in
     let none : resume_refusal N.net s tally T (length memory) ≡ None =

@@ -49,7 +49,7 @@ returns g c =
     let D : g.row.N.Denot → Type 0 = λ n. Made (g.N.Net.meaning n).net other (counters_of (g.N.Net.meaning n).net (held marking 0 done) c.args.memory) answer second in
     let C : Marking → Type 0 = λ m. Made N.net other (counters_of N.net (held m 0 done) c.args.memory) answer second in
     let same_net : parts.result.0 ≡ c.args.net = parts.ensures.net ∙ (c.perform_all.ensures.net ∙ c.new-sitting.ensures.net) in
-    let made = subst C (fun_ext c.all_counts-counts.ensures.everywhere) (subst D same_net c.in_ok-answer.ensures) in
+    let made = subst C (fun_ext c.all_counts-counts.ensures.answer) (subst D same_net c.in_ok-answer.ensures) in
     record {
       promise = promise;
       pinned = pinned;
