@@ -10,6 +10,7 @@ use crate::board::{BOARD_LIMIT, Board, PLACES, index_of};
 use refusals::Refusal;
 
 /// A board that keeps the 64 counts and spare as numbers.
+// clauses name the fields: under an `impl Model` the laws of a board stay open, which rest on the ghost fields
 #[derive(Drop)]
 pub struct CountBoard {
     counts: [u32; PLACES],

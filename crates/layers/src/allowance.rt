@@ -8,6 +8,7 @@ use boards::board::{BOARD_LIMIT, Board, index_of};
 use refusals::Refusal;
 
 /// A board over another, of whose spare no more than the number left may be used.
+// clauses name the fields: the value of an `impl Model` would be a record of the same two
 #[derive(Drop)]
 pub struct Allowance<B: Board> {
     below: B,

@@ -12,6 +12,7 @@ use refusals::Refusal;
 use std::array;
 
 /// A board over another: the row says for each place which one below it stands for.
+// clauses name the fields: under an `impl Model` the laws of a board stay open, which rest on the ghost fields
 #[derive(Drop)]
 pub struct Renaming<B: Board> {
     below: B,

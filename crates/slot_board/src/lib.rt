@@ -23,6 +23,7 @@ const EMPTY: u8 = 0;
 const HIGHEST: u8 = 64;
 
 /// A board that keeps each block in a slot: 0 for an empty slot, or the place of its block and 1.
+// clauses name the fields: under an `impl Model` the laws of a board stay open, which rest on the ghost fields
 #[derive(Drop)]
 pub struct SlotBoard {
     slots: [u8; SLOTS],
