@@ -1,8 +1,10 @@
 //! Place sets: a set of places 0 to 63 as the 64 flags of one word.
 #![tactic(auto)]
 
-ghost use Rattle.std.specs.Prelude.{◌≡◌, ℕ, ◌^◌, ◌<◌, false, not, ◌&&◌, ◌||◌, Decides, MatchOption, ◌==◌, nat_lt};
+ghost use Rattle.std.specs.Prelude.{◌≡◌, ℕ, ◌^◌, ◌<◌, ◌≤◌, Bool, false, not, ◌&&◌, ◌||◌, Decides, MatchOption, ◌==◌, nat_lt};
 ghost use Rattle.place_sets.specs.Flags.{has, first_place, Empty, IsFirst};
+
+use std::marker::Model;
 
 /// A set of places 0 to 63.
 #[derive(Clone, Copy)]
@@ -10,31 +12,56 @@ pub struct PlaceSet {
     word: u64,
 }
 
-const FLAGS: u8 = 64;
+// A clause sees the word; `has` reads it.
+impl Model for PlaceSet {
+    ghost Value = { ℕ };
+
+    ghost view = { λ s. s.word };
+
+    ghost inverse = { λ w. record { word = w } };
+}
+
+/// How many places a set can hold, numbered from 0.
+const PLACES: u8 = 64;
 
 impl PlaceSet {
     /// The set without places.
     pub fn empty() -> PlaceSet
-        ensures answer { Empty result.word }
-        ensures bound { result.word < 2 ^ 64 }
+        ensures answer { Empty result }
+        ensures word { result ≡ 0 }
+        ensures bound { result < 2 ^ 64 }
     {
         PlaceSet { word: 0 }
     }
 
+    /// The places below the given end, none above 63, that pass a test.
+    pub fn passing<F: Fn(u8) -> bool>(end: u8, test: F) -> PlaceSet
+        requires { F.IsAlwaysCallable test }
+        ensures { (b : ℕ → Bool) → ((p : ℕ) (r : Bool) → p < end → F.post test p r → r ≡ b p) → (p : ℕ) → has result p ≡ (nat_lt p end && (nat_lt p 64 && b p)) }
+    {
+        let mut places = PlaceSet::empty();
+        for place in 0..end {
+            if test(place) {
+                places = places.with(place);
+            }
+        }
+        places
+    }
+
     /// Whether the place is in the set; false above 63.
     pub fn has(self, place: u8) -> bool
-        ensures { result ≡ has self.word place }
+        ensures { result ≡ has self place }
     {
-        place < FLAGS && (self.word >> place) & 1 == 1
+        place < PLACES && (self.word >> place) & 1 == 1
     }
 
     /// The set with one place more; a place above 63 leaves it as it is.
     pub fn with(self, place: u8) -> PlaceSet
-        ensures answer { (p : ℕ) → has result.word p ≡ (has self.word p || (p == place && nat_lt place 64)) }
-        ensures grows { has self.word place ≡ false → place < 64 → self.word < result.word }
-        ensures bound { result.word < 2 ^ 64 }
+        ensures answer { (p : ℕ) → has result p ≡ (has self p || (p == place && nat_lt place 64)) }
+        ensures grows { has self place ≡ false → place < 64 → self < result }
+        ensures bound { result < 2 ^ 64 }
     {
-        if place < FLAGS {
+        if place < PLACES {
             PlaceSet {
                 word: self.word | (1 << place),
             }
@@ -45,14 +72,14 @@ impl PlaceSet {
 
     /// The set without one of its places.
     pub fn without(self, place: u8) -> PlaceSet
-        ensures { (p : ℕ) → has result.word p ≡ (has self.word p && not (p == place)) }
+        ensures { (p : ℕ) → has result p ≡ (has self p && not (p == place)) }
     {
         self.minus(PlaceSet::empty().with(place))
     }
 
     /// The places of either set.
     pub fn union(self, other: PlaceSet) -> PlaceSet
-        ensures { (p : ℕ) → has result.word p ≡ (has self.word p || has other.word p) }
+        ensures { (p : ℕ) → has result p ≡ (has self p || has other p) }
     {
         PlaceSet {
             word: self.word | other.word,
@@ -61,30 +88,26 @@ impl PlaceSet {
 
     /// The places of this set that are not in the other.
     pub fn minus(self, other: PlaceSet) -> PlaceSet
-        ensures { (p : ℕ) → has result.word p ≡ (has self.word p && not (has other.word p)) }
+        ensures answer { (p : ℕ) → has result p ≡ (has self p && not (has other p)) }
+        ensures inside { (p : ℕ) → 64 ≤ p → has result p ≡ false }
     {
         PlaceSet {
-            word: self.word ^ (self.word & other.word),
+            word: self.word & !other.word,
         }
     }
 
     /// Whether no place is in the set.
     pub fn is_empty(self) -> bool
-        ensures { Decides result (Empty self.word) }
+        ensures { Decides result (Empty self) }
     {
         self.word == 0
     }
 
     /// The least place of the set.
     pub fn first(self) -> Option<u8>
-        ensures answer { result ≡ first_place self.word }
-        ensures cases { MatchOption result (Empty self.word) (IsFirst self.word) }
+        ensures answer { result ≡ first_place self }
+        ensures cases { MatchOption result (Empty self) (IsFirst self) }
     {
-        let zeros = self.word.trailing_zeros();
-        if zeros < FLAGS as u32 {
-            Some(zeros as u8)
-        } else {
-            None
-        }
+        (!self.is_empty()).then(|| self.word.trailing_zeros() as u8)
     }
 }

@@ -1,9 +1,7 @@
 -- Schedules with the same tables say the same, and a schedule says what the net and the tally that it shows say.
-use Rattle.std.proofs.Common.{◌≡◌, ℕ, zero, suc, ◌+◌, false, List, [], ◌∷◌, get_or, Some, None, Option, unwrap_or, sym, refl, ◌∙◌, subst, inl, inr, arith}
-use Rattle.std.proofs.lemmas.Bool.{cases_eq}
+use Rattle.std.proofs.Common.{◌≡◌, ℕ, ◌+◌, ◌<◌, Some, None, Option, unwrap_or, sym, ◌∙◌, subst, inl, inr, arith}
+use Rattle.std.proofs.lemmas.Bool.{cases_eq, cases_lt}
 use Rattle.theory.specs.Rows.{at}
-use Rattle.place_sets.specs.declared.PlaceSet.{PlaceSet}
-use Rattle.place_sets.specs.Flags.{has}
 use Rattle.theory.specs.Nets.{LawfulNet}
 use Rattle.nets.specs.Answers.{InputIs}
 use Rattle.schedules.specs.declared.schedule.Schedule.{Schedule}
@@ -21,12 +19,12 @@ pub input_or_0 : (L : LawfulNet) (t : ℕ) (o : Option ℕ) → InputIs L.net t 
 input_or_0 L t None h = sym (L.law.no_input_outside_steps t h)
 input_or_0 L t (Some p) h = h.1
 
--- past the end of a row of sets it does not matter which empty set is read
-pub has_past : (row : List PlaceSet) (i : ℕ) (d e : PlaceSet) (p : ℕ) → has d.word p ≡ false → has e.word p ≡ false →
-    has (get_or row i d).word p ≡ has (get_or row i e).word p
-has_past [] i d e p h k = h ∙ sym k
-has_past (x ∷ xs) zero d e p h k = refl
-has_past (x ∷ xs) (suc i) d e p h k = has_past xs i d e p h k
+-- every input is a place below 64
+pub input_small : (L : LawfulNet) (t : ℕ) → L.net.input t < 64
+input_small L t = elim (cases_lt t L.net.steps) [
+  | inl l ↦ omega (arith, L.law.inputs_inside t l, L.law.few_places)
+  | inr h ↦ omega (arith, L.law.no_input_outside_steps t h)
+]
 
 -- one place after the other
 pub rebuilt_more : (s s' s'' : Schedule) (n : ℕ) → AllRebuilt s n s' → Rebuilt s' n s'' → AllRebuilt s (n + 1) s''
@@ -43,10 +41,10 @@ rebuilt_more s s' s'' n a r = record {
     | inl e ↦ subst (λ (u : ℕ). has_at s''.leads u p ≡ leads_in s u p) (sym e) (r.leads p ∙ leads_same s s' a.else n p)
     | inr d ↦ r.other_leads q p d ∙ a.leads q p (omega arith)
   ];
-  takers = λ q l few. elim (cases_eq q n) [
+  takers = λ q l. elim (cases_eq q n) [
     | inl e ↦
         subst (λ (u : ℕ). at s''.takers u ≡ takers_in s u) (sym e)
-        (r.takers (omega (arith, a.else.steps)) ∙ takers_same s s' a.else n)
-    | inr d ↦ r.other_takers q d ∙ a.takers q (omega arith) few
+        (r.takers ∙ takers_same s s' a.else n)
+    | inr d ↦ r.other_takers q d ∙ a.takers q (omega arith)
   ];
 }

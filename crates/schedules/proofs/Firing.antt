@@ -33,26 +33,22 @@ one_less_at row i j h = elim (cases_eq j i) [
 
 -- ONE LESS OF A STEP
 
--- the schedule with another row of what is left
-abbrev pub with_left : Schedule → List ℕ → Schedule
-with_left s row = record {
-  steps = s.steps;
-  held = s.held;
-  left = row;
-  inputs = s.inputs;
-  yields = s.yields;
-  marked = s.marked;
-  leads = s.leads;
-  takers = s.takers;
-}
+-- the two differ only in that one less of t is left
+pub record CountedDown (s : Schedule) (t : ℕ) (s' : Schedule) : Type 0 where
+  pub steps : s'.steps ≡ s.steps
+  pub held : s'.held ≡ s.held
+  pub left : s'.left ≡ set s.left t (at s.left t - 1)
+  pub inputs : s'.inputs ≡ s.inputs
+  pub yields : s'.yields ≡ s.yields
+  pub marked : s'.marked ≡ s.marked
+  pub leads : s'.leads ≡ s.leads
+  pub takers : s'.takers ≡ s.takers
 
-module _ (N : NetMeaning) (law : NetLaw N) (m : Marking) (x : Tally) (s : Schedule) (h : Shows N m x s) (t : ℕ) (l : t < N.steps) (k : 0 < x t) where
-  abbrev counted : Schedule
-  counted = with_left s (set s.left t (at s.left t - 1))
-
+module _ (N : NetMeaning) (law : NetLaw N) (m : Marking) (x : Tally) (s : Schedule) (h : Shows N m x s) (t : ℕ) (l : t < N.steps) (k : 0 < x t)
+    (counted : Schedule) (c : CountedDown s t counted) where
   left_after : (u : ℕ) → u < N.steps → at counted.left u ≡ less x t u
   left_after u j =
-      one_less_at s.left t u (omega (arith, h.left t l)) ∙ ap (λ (v : ℕ). v - one_at t u) (h.left u j)
+      ap (λ row. at row u) c.left ∙ one_less_at s.left t u (omega (arith, h.left t l)) ∙ ap (λ (v : ℕ). v - one_at t u) (h.left u j)
 
   -- which steps that are left take at q changes only if the last of t is gone and t takes there
   takes_same : (q : ℕ) → ((N.input t ≡ q → ⊥) ⊎ (1 < x t)) → (u : ℕ) → takes N (less x t) q u ≡ takes N x q u
@@ -83,12 +79,12 @@ module _ (N : NetMeaning) (law : NetLaw N) (m : Marking) (x : Tally) (s : Schedu
       ((q p : ℕ) → q < N.places → has_at s'.leads q p ≡ leads_to N (less x t) q p) →
       ((q : ℕ) → q < N.places → at s'.takers q ≡ takers_at N (less x t) q) → Shows N m (less x t) s'
   shows_less s' e leads takers = record {
-    steps = e.steps ∙ h.steps;
-    held = λ p j. ap (λ row. at row p) e.held ∙ h.held p j;
+    steps = e.steps ∙ (c.steps ∙ h.steps);
+    held = λ p j. ap (λ row. at row p) (e.held ∙ c.held) ∙ h.held p j;
     left = λ u j. ap (λ row. at row u) e.left ∙ left_after u j;
-    inputs = λ u. ap (λ row. at row u) e.inputs ∙ h.inputs u;
-    yields = λ u p. ap (λ row. has_at row u p) e.yields ∙ h.yields u p;
-    marked = λ p. ap (λ set. has set.word p) e.marked ∙ h.marked p;
+    inputs = λ u. ap (λ row. at row u) (e.inputs ∙ c.inputs) ∙ h.inputs u;
+    yields = λ u p. ap (λ row. has_at row u p) (e.yields ∙ c.yields) ∙ h.yields u p;
+    marked = λ p. ap (λ set. has set p) (e.marked ∙ c.marked) ∙ h.marked p;
     leads = leads;
     takers = takers;
   }
@@ -97,27 +93,34 @@ module _ (N : NetMeaning) (law : NetLaw N) (m : Marking) (x : Tally) (s : Schedu
   pub shows_more_left : 1 < x t → Shows N m (less x t) counted
   shows_more_left two = shows_less counted
       (record { steps = refl; held = refl; left = refl; inputs = refl; yields = refl; marked = refl })
-      (λ q p j. h.leads q p j ∙ sym (leads_less q (inr two) p))
-      (λ q j. h.takers q j ∙ sym (takers_less q (inr two)))
+      (λ q p j. ap (λ row. has_at row q p) c.leads ∙ h.leads q p j ∙ sym (leads_less q (inr two) p))
+      (λ q j. ap (λ row. at row q) c.takers ∙ h.takers q j ∙ sym (takers_less q (inr two)))
 
   -- the last of the step is gone, and what its input place leads to is found anew
-  pub shows_last_gone : (s' : Schedule) → Rebuilt counted (N.input t) s' → Shows N m (less x t) s'
-  shows_last_gone s' r = shows_less s' r.else
+  pub shows_last_gone : (place : ℕ) (s' : Schedule) → Rebuilt counted place s' → place ≡ N.input t → Shows N m (less x t) s'
+  shows_last_gone place s' rebuilt there =
+      let r : Rebuilt counted (N.input t) s' = subst (λ (p : ℕ). Rebuilt counted p s') there rebuilt in
+      shows_less s' r.else
       (λ q p j. elim (cases_eq q (N.input t)) [
         | inl e ↦
             subst (λ (v : ℕ). has_at s'.leads v p ≡ leads_to N (less x t) v p) (sym e)
             (r.leads p ∙ leads_shown N (less x t) counted tabled (N.input t) p)
-        | inr d ↦ r.other_leads q p d ∙ h.leads q p j ∙ sym (leads_less q (inl (λ e. d (sym e))) p)
+        | inr d ↦ r.other_leads q p d ∙ ap (λ row. has_at row q p) c.leads ∙ h.leads q p j ∙ sym (leads_less q (inl (λ e. d (sym e))) p)
       ])
       (λ q j. elim (cases_eq q (N.input t)) [
         | inl e ↦
             subst (λ (v : ℕ). at s'.takers v ≡ takers_at N (less x t) v) (sym e)
-            (r.takers (omega (arith, law.few_steps, h.steps)) ∙ takers_shown N (less x t) counted tabled (N.input t))
-        | inr d ↦ r.other_takers q d ∙ h.takers q j ∙ sym (takers_less q (inl (λ e. d (sym e))))
+            (r.takers ∙ takers_shown N (less x t) counted tabled (N.input t))
+        | inr d ↦ r.other_takers q d ∙ ap (λ row. at row q) c.takers ∙ h.takers q j ∙ sym (takers_less q (inl (λ e. d (sym e))))
       ])
     where
       tabled : Tabled N (less x t) counted
-      tabled = record { steps = h.steps; left = left_after; inputs = h.inputs; yields = h.yields }
+      tabled = record {
+        steps = c.steps ∙ h.steps;
+        left = left_after;
+        inputs = λ u. ap (λ row. at row u) c.inputs ∙ h.inputs u;
+        yields = λ u p. ap (λ row. has_at row u p) c.yields ∙ h.yields u p;
+      }
 
 -- BLOCKS MOVED
 
@@ -141,9 +144,9 @@ module _ (N : NetMeaning) (law : NetLaw N) (m : Marking) (x : Tally) (s : Schedu
       ≡ cond (yields q) (min (at (set s.held (at s.inputs t) (at s.held (at s.inputs t) - 1)) q + N.yields t q) (2 ^ 32 - 1))
       (at (set s.held (at s.inputs t) (at s.held (at s.inputs t) - 1)) q)) →
       (others : ℕ → Bool) →
-      ((q : ℕ) → at s.held (at s.inputs t) ≡ 1 → others q ≡ (has s.marked.word q && not (eqb q (at s.inputs t)))) →
-      ((q : ℕ) → (at s.held (at s.inputs t) ≡ 1 → ⊥) → others q ≡ has s.marked.word q) →
-      ((q : ℕ) → has s'.marked.word q ≡ (others q || yields q)) → Shows N (fired N m t) x s'
+      ((q : ℕ) → at s.held (at s.inputs t) ≡ 1 → others q ≡ (has s.marked q && not (eqb q (at s.inputs t)))) →
+      ((q : ℕ) → (at s.held (at s.inputs t) ≡ 1 → ⊥) → others q ≡ has s.marked q) →
+      ((q : ℕ) → has s'.marked q ≡ (others q || yields q)) → Shows N (fired N m t) x s'
   shows_fired s' steps left inputs yields leads takers bound y yields-are held others one more marked = record {
     steps = steps ∙ h.steps;
     held = λ q k.
@@ -157,7 +160,7 @@ module _ (N : NetMeaning) (law : NetLaw N) (m : Marking) (x : Tally) (s : Schedu
     marked = λ q.
         marked q ∙ ap (λ (v : Bool). others q || v) (yields-are q ∙ h.yields t q)
         ∙ marked_fired N law m x s h t i q (others q)
-        (λ e. one q (holds ∙ e) ∙ ap (λ (v : ℕ). has s.marked.word q && not (eqb q v)) (h.inputs t))
+        (λ e. one q (holds ∙ e) ∙ ap (λ (v : ℕ). has s.marked q && not (eqb q v)) (h.inputs t))
         (λ d. more q (λ e. d (sym holds ∙ e)));
     leads = λ q p k. ap (λ row. has_at row q p) leads ∙ h.leads q p k;
     takers = λ q k. ap (λ row. at row q) takers ∙ h.takers q k;

@@ -1,20 +1,28 @@
--- Rows, tests and counts that a loop builds up, one number after the other.
-use Rattle.std.proofs.Common.{◌≡◌, ℕ, zero, suc, ◌+◌, ◌<◌, Bool, true, false, cond, ◌||◌, List, length, get_or, set, sym, refl, ap, ◌∙◌, subst, inl, inr, add-one, arith}
-use Rattle.std.proofs.lemmas.Bool.{cases_eq}
-use Rattle.std.proofs.lemmas.List.{get_or-set_same, get_or-set_other}
+-- Tests and counts that a loop builds up, one number after the other.
+use Rattle.std.proofs.Common.{◌≡◌, ℕ, zero, suc, ◌+◌, ◌<◌, ◌≤◌, Bool, true, false, cond, ◌&&◌, ◌||◌, ltb, sym, refl, ap, ◌∙◌, inl, inr, add-one, arith}
+use Rattle.std.proofs.lemmas.Bool.{cases_lt, lt-ltb, le-ltb}
+use Rattle.theory.specs.Nets.{LawfulNet}
 use Rattle.theory.specs.Sums.{sum_to}
 use Rattle.theory.specs.Tests.{any_below}
 use Rattle.theory.proofs.SumLaws.{sum_to_suc}
 
--- ROWS THAT ARE WRITTEN FROM THE FRONT
+-- PLACES BELOW AN END THAT IS AT MOST 64
 
--- what holds of each element so far, and of the next, holds with the next
-pub row_more : {X : Type 0} (xs : List X) (i : ℕ) (v d : X) (P : ℕ → X → Type 0) → i < length xs →
-    ((k : ℕ) → k < i → P k (get_or xs k d)) → P i v → (k : ℕ) → k < i + 1 → P k (get_or (set xs i v) k d)
-row_more xs i v d P l below here k h =
-    elim (cases_eq k i) [
-      | inl e ↦ subst (λ (j : ℕ). P j (get_or (set xs i v) j d)) (sym e) (subst (P i) (sym (get_or-set_same xs i v d l)) here)
-      | inr n ↦ subst (P k) (sym (get_or-set_other xs i k v d n)) (below k (omega arith))
+pub below_end : (n p : ℕ) (v : Bool) → n ≤ 64 → (ltb p n && (ltb p 64 && v)) ≡ (ltb p n && v)
+below_end n p v few = elim (cases_lt p n) [
+  | inl l ↦ ap (λ (z : Bool). ltb p n && (z && v)) (lt-ltb p 64 (omega arith))
+  | inr k ↦ ap (λ (z : Bool). z && (ltb p 64 && v)) (le-ltb p n k) ∙ sym (ap (λ (z : Bool). z && v) (le-ltb p n k))
+]
+
+pub where_yielded : (L : LawfulNet) (t p : ℕ) →
+    (ltb p L.net.places && (ltb p 64 && ltb 0 (L.net.yields t p))) ≡ ltb 0 (L.net.yields t p)
+where_yielded L t p =
+    below_end L.net.places p (ltb 0 (L.net.yields t p)) L.law.few_places
+    ∙ elim (cases_lt p L.net.places) [
+      | inl l ↦ ap (λ (z : Bool). z && ltb 0 (L.net.yields t p)) (lt-ltb p L.net.places l)
+      | inr k ↦
+          ap (λ (z : Bool). z && ltb 0 (L.net.yields t p)) (le-ltb p L.net.places k)
+          ∙ sym (le-ltb 0 (L.net.yields t p) (omega (arith, L.law.no_yield_outside_places t p k)))
     ]
 
 -- SOME NUMBER BELOW n PASSES

@@ -1,5 +1,6 @@
 mod Searching
 mod Flagged
+mod FilledSo
 mod Agreeing
 mod Shown
 mod Reaching

@@ -99,7 +99,7 @@ module _ (N : NetMeaning) (law : NetLaw N) (m : Marking) (x : Tally) (s : Schedu
       none (suc n) = none n
 
   pub cut_off_shown : (used reached : Bool) (p : ℕ) → used ≡ in_use s p →
-      Decides reached (Led (has_at s.leads) (has s.marked.word) p) →
+      Decides reached (Led (has_at s.leads) (has s.marked) p) →
       (used && not reached) ≡ (ltb p N.places && is_cut_off N m x p)
   cut_off_shown used reached p u d =
       elim (cases_lt p N.places) [
@@ -107,7 +107,7 @@ module _ (N : NetMeaning) (law : NetLaw N) (m : Marking) (x : Tally) (s : Schedu
             ap (λ (v : Bool). v && not reached) (u ∙ in_use_shown p)
             ∙ ap (λ (v : Bool). in_subnet N x p && not v)
             (same_from_decides reached (is_reached N m x p)
-            (led_decides N law m x (has_at s.leads) (has s.marked.word) h.leads h.marked reached p l d)
+            (led_decides N law m x (has_at s.leads) (has s.marked) h.leads h.marked reached p l d)
             (reached_decided N law.inputs_inside m x p l))
             ∙ sym (ap (λ (v : Bool). v && is_cut_off N m x p) (lt-ltb p N.places l))
         | inr k ↦

@@ -42,16 +42,16 @@ module _ (N : NetMeaning) (x : Tally) (s : Schedule) (b : Tabled N x s) where
 -- what a new schedule shows once its leads and takers are found
 pub shows_new : (N : NetMeaning) → NetLaw N → (m : Marking) (x : Tally) (s s' : Schedule) → Tabled N x s →
     ((p : ℕ) → p < 64 → at s.held p ≡ m p) →
-    ((p : ℕ) → has s.marked.word p ≡ (ltb p N.places && ltb 0 (m p))) → AllRebuilt s 64 s' → Shows N m x s'
+    ((p : ℕ) → has s.marked p ≡ (ltb p N.places && ltb 0 (m p))) → AllRebuilt s 64 s' → Shows N m x s'
 shows_new N law m x s s' b held marked r = record {
   steps = r.else.steps ∙ b.steps;
   held = λ p l. ap (λ row. at row p) r.else.held ∙ held p (omega (arith, law.few_places));
   left = λ t l. ap (λ row. at row t) r.else.left ∙ b.left t l;
   inputs = λ t. ap (λ row. at row t) r.else.inputs ∙ b.inputs t;
   yields = λ t p. ap (λ row. has_at row t p) r.else.yields ∙ b.yields t p;
-  marked = λ p. ap (λ set. has set.word p) r.else.marked ∙ marked p;
+  marked = λ p. ap (λ set. has set p) r.else.marked ∙ marked p;
   leads = λ q p l. r.leads q p (omega (arith, law.few_places)) ∙ leads_shown N x s b q p;
-  takers = λ p l. r.takers p (omega (arith, law.few_places)) (omega (arith, law.few_steps, b.steps)) ∙ takers_shown N x s b p;
+  takers = λ p l. r.takers p (omega (arith, law.few_places)) ∙ takers_shown N x s b p;
 }
 
 -- THE PLACES THAT HOLD A BLOCK AFTER A STEP
@@ -69,12 +69,12 @@ and_so false w e = refl
 module _ (N : NetMeaning) (law : NetLaw N) (m : Marking) (x : Tally) (s : Schedule) (h : Shows N m x s) (t : ℕ) (i : 0 < m (N.input t)) where
   -- those where the step yields, and the others that held one: all of them, or without the input place if it held one block
   pub marked_fired : (q : ℕ) (others : Bool) →
-      (m (N.input t) ≡ 1 → others ≡ (has s.marked.word q && not (eqb q (N.input t)))) →
-      ((m (N.input t) ≡ 1 → ⊥) → others ≡ has s.marked.word q) →
+      (m (N.input t) ≡ 1 → others ≡ (has s.marked q && not (eqb q (N.input t)))) →
+      ((m (N.input t) ≡ 1 → ⊥) → others ≡ has s.marked q) →
       (others || ltb 0 (N.yields t q)) ≡ (ltb q N.places && ltb 0 (fired N m t q))
   marked_fired q others one more = elim (cases_lt q N.places) [
     | inr k ↦
-        let b : has s.marked.word q ≡ false = h.marked q ∙ ap (λ (v : Bool). v && ltb 0 (m q)) (le-ltb q N.places k) in
+        let b : has s.marked q ≡ false = h.marked q ∙ ap (λ (v : Bool). v && ltb 0 (m q)) (le-ltb q N.places k) in
         ap (λ (v : Bool). v || ltb 0 (N.yields t q)) (none b)
         ∙ le-ltb 0 (N.yields t q) (omega (arith, law.no_yield_outside_places t q k))
         ∙ sym (ap (λ (v : Bool). v && ltb 0 (fired N m t q)) (le-ltb q N.places k))
@@ -83,19 +83,19 @@ module _ (N : NetMeaning) (law : NetLaw N) (m : Marking) (x : Tally) (s : Schedu
         ∙ sym (ap (λ (v : Bool). v && ltb 0 (fired N m t q)) (lt-ltb q N.places k))
   ]
     where
-      none : has s.marked.word q ≡ false → others ≡ false
+      none : has s.marked q ≡ false → others ≡ false
       none b = elim (cases_eq (m (N.input t)) 1) [
         | inl e ↦ one e ∙ ap (λ (v : Bool). v && not (eqb q (N.input t))) b
         | inr d ↦ more d ∙ b
       ]
 
-      inside : has s.marked.word q ≡ ltb 0 (m q) →
+      inside : has s.marked q ≡ ltb 0 (m q) →
           ((N.input t ≡ q) × (one_at (N.input t) q ≡ 1)) ⊎ ((N.input t ≡ q → ⊥) × (one_at (N.input t) q ≡ 0)) →
           (m (N.input t) ≡ 1) ⊎ (m (N.input t) ≡ 1 → ⊥) → (others || ltb 0 (N.yields t q)) ≡ ltb 0 (fired N m t q)
       inside b (inl here) (inl e) =
           let e' : m q ≡ 1 = subst (λ (u : ℕ). m u ≡ 1) here.0 e in
           ap (λ (v : Bool). v || ltb 0 (N.yields t q))
-          (one e ∙ and_right (has s.marked.word q) (not (eqb q (N.input t))) (ap not (eq-eqb q (N.input t) (sym here.0))))
+          (one e ∙ and_right (has s.marked q) (not (eqb q (N.input t))) (ap not (eq-eqb q (N.input t) (sym here.0))))
           ∙ ap (ltb 0) (omega (arith, here.1))
       inside b (inl here) (inr d) =
           let c : 1 < m q = subst (λ (u : ℕ). 1 < m u) here.0 (omega arith) in
@@ -103,7 +103,7 @@ module _ (N : NetMeaning) (law : NetLaw N) (m : Marking) (x : Tally) (s : Schedu
           ∙ sym (lt-ltb 0 (fired N m t q) (omega (arith, here.1)))
       inside b (inr there) (inl e) =
           ap (λ (v : Bool). v || ltb 0 (N.yields t q))
-          (one e ∙ and_so (has s.marked.word q) (not (eqb q (N.input t))) (ap not (ne_eqb q (N.input t) (λ z. there.0 (sym z)))) ∙ b)
+          (one e ∙ and_so (has s.marked q) (not (eqb q (N.input t))) (ap not (ne_eqb q (N.input t) (λ z. there.0 (sym z)))) ∙ b)
           ∙ either_there (m q) (N.yields t q) ∙ ap (ltb 0) (omega (arith, there.1))
       inside b (inr there) (inr d) =
           ap (λ (v : Bool). v || ltb 0 (N.yields t q)) (more d ∙ b)

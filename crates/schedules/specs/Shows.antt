@@ -1,11 +1,11 @@
 -- What a schedule shows: a net, a marking and the tally that is left.
 use Rattle.std.specs.Prelude.{◌≡◌, ℕ, ◌+◌, ◌^◌, ◌<◌, Bool, cond, ◌&&◌, ◌==◌, nat_lt}
 use Rattle.theory.specs.Sums.{sum_to}
-use Rattle.theory.specs.Nets.{NetMeaning}
+use Rattle.theory.specs.Nets.{NetMeaning, NetLaw}
 use Rattle.theory.specs.Rows.{at}
 use Rattle.theory.specs.Firing.{Marking}
-use Rattle.theory.specs.Tallies.{Tally}
-use Rattle.theory.specs.Tests.{any_below}
+use Rattle.theory.specs.Tallies.{Tally, NoPlaceCutOff}
+use Rattle.theory.specs.Tests.{any_below, safe}
 use Rattle.place_sets.specs.Flags.{has}
 use Rattle.schedules.specs.declared.schedule.Schedule.{Schedule}
 use Rattle.schedules.specs.Tables.{has_at}
@@ -29,9 +29,17 @@ pub record Shows (N : NetMeaning) (m : Marking) (x : Tally) (s : Schedule) : Typ
   pub left : (t : ℕ) → t < N.steps → at s.left t ≡ x t
   pub inputs : (t : ℕ) → at s.inputs t ≡ N.input t
   pub yields : (t p : ℕ) → has_at s.yields t p ≡ nat_lt 0 (N.yields t p)
-  pub marked : (p : ℕ) → has s.marked.word p ≡ (nat_lt p N.places && nat_lt 0 (m p))
+  pub marked : (p : ℕ) → has s.marked p ≡ (nat_lt p N.places && nat_lt 0 (m p))
   pub leads : (q p : ℕ) → q < N.places → has_at s.leads q p ≡ leads_to N x q p
   pub takers : (p : ℕ) → p < N.places → at s.takers p ≡ takers_at N x p
+
+-- what holds of every lawful net, marking and tally that the schedule shows
+abbrev pub WhereShown : Schedule → (NetMeaning → Marking → Tally → Type 0) → Type 0
+WhereShown s P = (N : NetMeaning) (m : Marking) (x : Tally) → NetLaw N → Shows N m x s → P N m x
+
+-- b says whether t is safe, where no place is cut off
+pub record TellsSafe (s : Schedule) (t : ℕ) (b : Bool) : Type 0 where
+  pub told : WhereShown s (λ N m x. NoPlaceCutOff N m x → t < N.steps → b ≡ safe N m x t)
 
 -- t is a step of the net, is left in the tally, and finds a block
 pub record Ready (N : NetMeaning) (m : Marking) (x : Tally) (t : ℕ) : Type 0 where

@@ -1,15 +1,19 @@
 -- What the tables of a schedule say by themselves.
-use Rattle.std.specs.Prelude.{◌≡◌, ℕ, ◌<◌, ◌≤◌, Bool, cond, not, ◌&&◌, ◌||◌, List, ◌==◌, nat_lt, slice_index_or}
+use Rattle.std.specs.Prelude.{◌≡◌, ℕ, ◌<◌, Bool, cond, not, ◌&&◌, ◌||◌, List, ◌==◌, nat_lt}
 use Rattle.theory.specs.Sums.{sum_to}
+use Rattle.theory.specs.Nets.{NetMeaning}
 use Rattle.theory.specs.Rows.{at}
 use Rattle.theory.specs.Tests.{any_below}
 use Rattle.place_sets.specs.Flags.{has}
-use Rattle.place_sets.specs.declared.PlaceSet.{PlaceSet}
 use Rattle.schedules.specs.declared.schedule.Schedule.{Schedule}
 
 -- p is in set i of the row; nothing is in a set past its end
-abbrev pub has_at : List PlaceSet → ℕ → ℕ → Bool
-has_at row i p = has (slice_index_or row i (record { word = 0 })).word p
+abbrev pub has_at : List ℕ → ℕ → ℕ → Bool
+has_at row i p = has (at row i) p
+
+-- the set w has the places at which t yields
+pub record HoldsYields (N : NetMeaning) (t w : ℕ) : Type 0 where
+  pub there : (p : ℕ) → has w p ≡ nat_lt 0 (N.yields t p)
 
 -- the step t is left and takes at p
 abbrev pub takes_in : Schedule → ℕ → ℕ → Bool
@@ -30,7 +34,7 @@ in_use s p =
 
 -- the step t is left and finds a block
 abbrev pub ready_in : Schedule → ℕ → Bool
-ready_in s t = nat_lt 0 (at s.left t) && has s.marked.word (at s.inputs t)
+ready_in s t = nat_lt 0 (at s.left t) && has s.marked (at s.inputs t)
 
 -- the input place of t holds a block after t: it has another, or t yields there
 abbrev pub keeps_in : Schedule → ℕ → Bool
@@ -42,7 +46,7 @@ last_in s t = at s.left t == 1 && at s.takers (at s.inputs t) == 1
 
 -- p holds a block after t took the last one at its input place
 abbrev pub marked_after : Schedule → ℕ → ℕ → Bool
-marked_after s t p = (has s.marked.word p && not (p == at s.inputs t)) || has_at s.yields t p
+marked_after s t p = (has s.marked p && not (p == at s.inputs t)) || has_at s.yields t p
 
 -- the two differ at most in their leads and takers
 pub record SameElse (s s' : Schedule) : Type 0 where
@@ -57,7 +61,7 @@ pub record SameElse (s s' : Schedule) : Type 0 where
 pub record Rebuilt (s : Schedule) (place : ℕ) (s' : Schedule) : Type 0 where
   pub else : SameElse s s'
   pub leads : (p : ℕ) → has_at s'.leads place p ≡ leads_in s place p
-  pub takers : s.steps ≤ 128 → at s'.takers place ≡ takers_in s place
+  pub takers : at s'.takers place ≡ takers_in s place
   pub other_leads : (q p : ℕ) → (q ≡ place → ⊥) → has_at s'.leads q p ≡ has_at s.leads q p
   pub other_takers : (q : ℕ) → (q ≡ place → ⊥) → at s'.takers q ≡ at s.takers q
 
@@ -65,4 +69,4 @@ pub record Rebuilt (s : Schedule) (place : ℕ) (s' : Schedule) : Type 0 where
 pub record AllRebuilt (s : Schedule) (n : ℕ) (s' : Schedule) : Type 0 where
   pub else : SameElse s s'
   pub leads : (q p : ℕ) → q < n → has_at s'.leads q p ≡ leads_in s q p
-  pub takers : (q : ℕ) → q < n → s.steps ≤ 128 → at s'.takers q ≡ takers_in s q
+  pub takers : (q : ℕ) → q < n → at s'.takers q ≡ takers_in s q

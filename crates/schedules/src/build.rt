@@ -1,62 +1,61 @@
 //! A schedule from a net, the counts of a board and a tally.
-ghost use Rattle.std.specs.Prelude.{◌≡◌, ℕ, ◌<◌, ◌≤◌, ◌&&◌, nat_lt};
+ghost use Rattle.std.specs.Prelude.{◌≡◌, ℕ, ◌<◌, ◌≤◌, ◌&&◌, nat_lt, slice_index_or};
 ghost use Rattle.place_sets.specs.Flags.{has};
 ghost use Rattle.schedules.specs.Shows.{Shows};
-ghost use Rattle.schedules.specs.Tables.{has_at, takes_in, leads_in, takers_in, Rebuilt, AllRebuilt};
+ghost use Rattle.schedules.specs.Tables.{has_at, takes_in, leads_in, takers_in, Rebuilt, AllRebuilt, HoldsYields};
 ghost use Rattle.theory.specs.Rows.{at};
 
-use crate::rows::{at_or, front};
-use crate::schedule::{PLACES, STEPS, Schedule};
+use crate::schedule::{STEPS, Schedule};
+use boards::board::PLACES;
 use nets::net::Net;
 use place_sets::PlaceSet;
+use std::array;
+
+/// The input of a step; 0 past the last.
+fn input_of<N: Net>(net: &N, step: u16) -> u8
+    ensures { result ≡ (N.meaning net.now).net.input step }
+{
+    net.input(step).unwrap_or(0)
+}
 
 /// The input of each step; 0 past the last.
-fn inputs_of<N: Net>(net: &N) -> [u8; 128]
-    ensures { (t : ℕ) → at result t ≡ (N.meaning net.now).net.input t }
+fn inputs_of<N: Net>(net: &N) -> [u8; STEPS]
+    ensures answer { (t : ℕ) → at result t ≡ (N.meaning net.now).net.input t }
+    ensures inside { (t : ℕ) → at result t < 64 }
 {
-    let mut inputs = [0; 128];
-    for step in 0..STEPS {
-        inputs[step as usize] = net.input(step).unwrap_or(0);
-    }
-    inputs
+    array::from_fn(|step| input_of(net, step as u16))
 }
 
 /// The places at which a step yields.
 fn yields_at<N: Net>(net: &N, step: u16) -> PlaceSet
-    ensures { (p : ℕ) → has result.word p ≡ nat_lt 0 ((N.meaning net.now).net.yields step p) }
+    ensures { HoldsYields (N.meaning net.now).net step result }
 {
-    let mut places = PlaceSet::empty();
-    for place in 0..PLACES {
-        if net.yield_at(step, place) > 0 {
-            places = places.with(place);
-        }
-    }
-    places
+    PlaceSet::passing(net.places(), |place| net.yield_at(step, place) > 0)
 }
 
 /// The places at which each step yields.
-fn yields_of<N: Net>(net: &N) -> [PlaceSet; 128]
+fn yields_of<N: Net>(net: &N) -> [PlaceSet; STEPS]
     ensures { (t p : ℕ) → has_at result t p ≡ nat_lt 0 ((N.meaning net.now).net.yields t p) }
 {
-    let mut yields = [PlaceSet::empty(); 128];
-    for step in 0..STEPS {
-        yields[step as usize] = yields_at(net, step);
-    }
-    yields
+    array::from_fn(|step| yields_at(net, step as u16))
 }
 
 /// The places that hold a block.
 fn marked_in(held: &[u32], places: u8) -> PlaceSet
     requires { places ≤ 64 }
-    ensures { (p : ℕ) → has result.word p ≡ (nat_lt p places && nat_lt 0 (at held.now p)) }
+    ensures { (p : ℕ) → has result p ≡ (nat_lt p places && nat_lt 0 (at held.now p)) }
 {
-    let mut marked = PlaceSet::empty();
-    for place in 0..places {
-        if at_or(held, place as usize, 0) > 0 {
-            marked = marked.with(place);
-        }
-    }
-    marked
+    PlaceSet::passing(
+        places,
+        |place| held.get(usize::from(place)).copied().unwrap_or(0) > 0,
+    )
+}
+
+/// The front of a row, filled up with 0.
+fn front<T: Copy, const N: usize>(row: &[T], past: T) -> [T; N]
+    ensures { (i : ℕ) → i < N → slice_index_or result i past ≡ slice_index_or row.now i past }
+{
+    array::from_fn(|i| row.get(i).copied().unwrap_or(past))
 }
 
 impl Schedule {
@@ -64,7 +63,6 @@ impl Schedule {
     pub fn new<N: Net>(net: &N, counts: &[u32], tally: &[u16]) -> Schedule
         ensures { Shows (N.meaning net.now).net (at counts.now) (at tally.now) result }
     {
-        let leads = [PlaceSet::empty(); 64];
         let mut schedule = Schedule {
             steps: net.steps(),
             held: front(counts, 0),
@@ -72,8 +70,8 @@ impl Schedule {
             inputs: inputs_of(net),
             yields: yields_of(net),
             marked: marked_in(counts, net.places()),
-            leads,
-            takers: [0; 64],
+            leads: [PlaceSet::empty(); PLACES],
+            takers: [0; PLACES],
         };
         schedule.rebuild_all();
         schedule
@@ -83,7 +81,7 @@ impl Schedule {
     fn rebuild_all(&mut self)
         ensures { AllRebuilt self.old 64 self.new }
     {
-        for place in 0..PLACES {
+        for place in 0..PLACES as u8 {
             self.rebuild(place);
         }
     }
@@ -93,13 +91,13 @@ impl Schedule {
         requires { place < 64 }
         ensures { Rebuilt self.old place self.new }
     {
-        self.leads[place as usize] = self.leads_from(place);
-        self.takers[place as usize] = self.takers_at(place);
+        self.leads[usize::from(place)] = self.leads_from(place);
+        self.takers[usize::from(place)] = self.takers_at(place);
     }
 
     /// Where the steps that are left and take at a place yield.
     fn leads_from(&self, place: u8) -> PlaceSet
-        ensures { (p : ℕ) → has result.word p ≡ leads_in self.now place p }
+        ensures { (p : ℕ) → has result p ≡ leads_in self.now place p }
     {
         let mut leads = PlaceSet::empty();
         for step in 0..self.steps {
@@ -112,12 +110,12 @@ impl Schedule {
 
     /// How many steps that are left take at a place.
     fn takers_at(&self, place: u8) -> u8
-        ensures { self.now.steps ≤ 128 → result ≡ takers_in self.now place }
+        ensures { result ≡ takers_in self.now place }
     {
-        let mut takers = 0u8;
+        let mut takers = 0;
         for step in 0..self.steps {
             if self.takes(step, place) {
-                takers = takers.saturating_add(1);
+                takers += 1;
             }
         }
         takers
@@ -127,6 +125,6 @@ impl Schedule {
     fn takes(&self, step: u16, place: u8) -> bool
         ensures { result ≡ takes_in self.now place step }
     {
-        at_or(&self.left, step as usize, 0) > 0 && self.input(step) == place
+        self.times_left(step) > 0 && self.input(step) == place
     }
 }

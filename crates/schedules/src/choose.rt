@@ -1,34 +1,26 @@
 //! The next step of the first order: the least that is safe.
 ghost use Rattle.std.specs.Prelude.{◌≡◌, ◌<◌, Decides};
 ghost use Rattle.schedules.specs.Led.{Led};
-ghost use Rattle.schedules.specs.Shows.{Shows};
+ghost use Rattle.schedules.specs.Shows.{WhereShown, TellsSafe};
 ghost use Rattle.schedules.specs.Tables.{has_at, ready_in, keeps_in, last_in, marked_after};
-ghost use Rattle.theory.specs.Firing.{Marking};
-ghost use Rattle.theory.specs.Nets.{NetMeaning, NetLaw};
 ghost use Rattle.theory.specs.Rows.{at};
-ghost use Rattle.theory.specs.Tallies.{Tally, NoPlaceCutOff};
+ghost use Rattle.theory.specs.Tallies.{NoPlaceCutOff};
 ghost use Rattle.theory.specs.Tests.{least, safe};
 
-use crate::rows::at_or;
 use crate::schedule::Schedule;
 
 impl Schedule {
     /// The least step that is safe, where no place is cut off.
     pub fn next_step(&self) -> Option<u16>
-        ensures { (N : NetMeaning) (m : Marking) (x : Tally) → NetLaw N → Shows N m x self.now → NoPlaceCutOff N m x → result ≡ least (safe N m x) N.steps }
+        ensures { WhereShown self.now (λ N m x. NoPlaceCutOff N m x → result ≡ least (safe N m x) N.steps) }
     {
-        for step in 0..self.steps {
-            if self.is_safe(step) {
-                return Some(step);
-            }
-        }
-        None
+        (0..self.steps).find(|step| self.is_safe(*step))
     }
 
     /// Whether a step is safe, where no place is cut off: it can lose only its input place, and only
     /// by taking the last block there and yielding none.
     fn is_safe(&self, step: u16) -> bool
-        ensures { (N : NetMeaning) (m : Marking) (x : Tally) → NetLaw N → Shows N m x self.now → NoPlaceCutOff N m x → step < N.steps → result ≡ safe N m x step }
+        ensures { TellsSafe self.now step result }
     {
         if !self.is_ready(step) {
             return false;
@@ -43,7 +35,7 @@ impl Schedule {
     pub(crate) fn is_ready(&self, step: u16) -> bool
         ensures { result ≡ ready_in self.now step }
     {
-        at_or(&self.left, step as usize, 0) > 0 && self.marked.has(self.input(step))
+        self.times_left(step) > 0 && self.marked.has(self.input(step))
     }
 
     /// Whether the input place holds a block after the step.
@@ -51,15 +43,14 @@ impl Schedule {
         ensures { result ≡ keeps_in self.now step }
     {
         let place = self.input(step);
-        at_or(&self.held, place as usize, 0) > 1 || self.yields(step).has(place)
+        self.blocks_at(place) > 1 || self.yields(step).has(place)
     }
 
     /// Whether no step that is left after this one takes at its input place.
     fn takes_last(&self, step: u16) -> bool
         ensures { result ≡ last_in self.now step }
     {
-        at_or(&self.left, step as usize, 0) == 1
-            && at_or(&self.takers, self.input(step) as usize, 0) == 1
+        self.times_left(step) == 1 && self.takers[usize::from(self.input(step))] == 1
     }
 
     /// Whether the input place is reached from the other places that hold a block after the step.

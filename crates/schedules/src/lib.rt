@@ -5,5 +5,4 @@ mod build;
 mod choose;
 mod fire;
 mod reach;
-mod rows;
 pub mod schedule;

@@ -2,32 +2,28 @@
 ghost use Rattle.std.specs.Prelude.{◌≡◌, ℕ, ◌&&◌, Decides, nat_lt};
 ghost use Rattle.place_sets.specs.Flags.{has};
 ghost use Rattle.schedules.specs.Led.{Led};
-ghost use Rattle.schedules.specs.Shows.{Shows};
+ghost use Rattle.schedules.specs.Shows.{WhereShown};
 ghost use Rattle.schedules.specs.Tables.{has_at, in_use};
-ghost use Rattle.theory.specs.Firing.{Marking};
-ghost use Rattle.theory.specs.Nets.{NetMeaning, NetLaw};
-ghost use Rattle.theory.specs.Tallies.{Tally};
 ghost use Rattle.theory.specs.Tests.{is_cut_off};
 
-use crate::rows::at_or;
 use crate::schedule::Schedule;
 use place_sets::PlaceSet;
 
 impl Schedule {
     /// The places that are cut off: a step that is left takes or yields there, and they are not reached.
     pub fn cut_off(&self) -> PlaceSet
-        ensures { (N : NetMeaning) (m : Marking) (x : Tally) → NetLaw N → Shows N m x self.now → (p : ℕ) → has result.word p ≡ (nat_lt p N.places && is_cut_off N m x p) }
+        ensures { WhereShown self.now (λ N m x. (p : ℕ) → has result p ≡ (nat_lt p N.places && is_cut_off N m x p)) }
     {
         self.used().minus(self.reached_from(self.marked))
     }
 
     /// The places at which a step that is left takes or yields.
     fn used(&self) -> PlaceSet
-        ensures { (p : ℕ) → has result.word p ≡ in_use self.now p }
+        ensures { (p : ℕ) → has result p ≡ in_use self.now p }
     {
         let mut used = PlaceSet::empty();
         for step in 0..self.steps {
-            if at_or(&self.left, step as usize, 0) > 0 {
+            if self.times_left(step) > 0 {
                 used = used.with(self.input(step)).union(self.yields(step));
             }
         }
@@ -36,13 +32,13 @@ impl Schedule {
 
     /// The places of the given set, and all that steps which are left lead to from there.
     pub(crate) fn reached_from(&self, first: PlaceSet) -> PlaceSet
-        ensures { (p : ℕ) → Decides (has result.word p) (Led (has_at self.now.leads) (has first.word) p) }
+        ensures { (p : ℕ) → Decides (has result p) (Led (has_at self.now.leads) (has first) p) }
     {
         let mut seen = first;
         let mut done = PlaceSet::empty();
         while let Some(place) = seen.minus(done).first() {
             done = done.with(place);
-            seen = seen.union(self.leads[place as usize]);
+            seen = seen.union(self.leads[usize::from(place)]);
         }
         seen
     }

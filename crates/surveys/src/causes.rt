@@ -41,7 +41,7 @@ impl<N: Net> Finds<Finding> for ShortPlaces<'_, '_, N> {
 pub(crate) struct CutOffPlaces(pub(crate) PlaceSet);
 
 impl Finds<Finding> for CutOffPlaces {
-    ghost at = { λ s. finding_at (bytes_only (has s.0.word)) cut_off_finding };
+    ghost at = { λ s. finding_at (bytes_only (has s.0)) cut_off_finding };
 
     fn find(&self, number: u16) -> Option<Finding> {
         if number > u8::MAX as u16 {

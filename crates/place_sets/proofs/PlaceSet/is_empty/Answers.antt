@@ -6,7 +6,8 @@ use Rattle.place_sets.proofs.PlaceSet.is_empty.Goals as goal
 
 pub returns : goal.returns
 returns c =
-    let l : c.args.self.word < 2 ^ 64 = omega arith in (
-      λ e p. ap (λ (w : ℕ). has w p) (eqb-true c.args.self.word 0 e) ∙ has_none p,
-      λ none. eq-eqb c.args.self.word 0 (none_zero 64 c.args.self.word l none),
+    let l : c.self.inside.word < 2 ^ 64 = omega arith in
+    rw (← c.self.view_is) (
+      λ e p. ap (λ (w : ℕ). has w p) (eqb-true c.self.inside.word 0 e) ∙ has_none p,
+      λ none. eq-eqb c.self.inside.word 0 (none_zero c.self.inside.word l none),
     )

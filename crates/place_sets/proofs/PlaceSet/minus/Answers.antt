@@ -1,5 +1,11 @@
-use Rattle.place_sets.proofs.FlagLaws.{has_minus}
+use Rattle.std.proofs.Common.{arith}
+use Rattle.place_sets.proofs.FlagLaws.{has_minus, minus_above}
 use Rattle.place_sets.proofs.PlaceSet.minus.Goals as goal
 
-pub returns : goal.returns
-returns c = has_minus c.args.self.word c.args.other.word
+pub returns-clause-answer : goal.returns-clause-answer
+returns-clause-answer c =
+    rw (← c.self.view_is, ← c.other.view_is)
+    (λ p. has_minus c.self.inside.word c.other.inside.word p (omega arith) (omega arith))
+
+pub returns-clause-inside : goal.returns-clause-inside
+returns-clause-inside c p = minus_above c.self.inside.word c.other.inside.word p (omega arith)

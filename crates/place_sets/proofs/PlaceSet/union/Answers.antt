@@ -2,4 +2,4 @@ use Rattle.place_sets.proofs.FlagLaws.{has_union}
 use Rattle.place_sets.proofs.PlaceSet.union.Goals as goal
 
 pub returns : goal.returns
-returns c = has_union c.args.self.word c.args.other.word
+returns c = rw (← c.self.view_is, ← c.other.view_is) (has_union c.self.inside.word c.other.inside.word)

@@ -12,19 +12,19 @@ returns c =
     let s : Schedule = c.args.self.now in
     let t : ℕ = c.args.step in
     let there : c.input-place.result ≡ at s.inputs t = c.input-place.ensures.table in
-    let first : (p : ℕ) → has c.union-first.result.word p ≡ marked_after s t p =
+    let first : (p : ℕ) → has c.union-first.result p ≡ marked_after s t p =
     λ p. c.union-first.ensures p
-    ∙ ap (λ (v : Bool). v || has c.yields.result.word p)
-    (c.without.ensures p ∙ ap (λ (q : ℕ). has s.marked.word p && not (eqb p q)) there)
-    ∙ ap (λ (v : Bool). (has s.marked.word p && not (eqb p (at s.inputs t))) || v) (c.yields.ensures.table p) in
+    ∙ ap (λ (v : Bool). v || has c.yields.result p)
+    (c.without.ensures p ∙ ap (λ (q : ℕ). has s.marked p && not (eqb p q)) there)
+    ∙ ap (λ (v : Bool). (has s.marked p && not (eqb p (at s.inputs t))) || v) (c.yields.ensures.table p) in
     let d = c.reached_from.ensures c.input-place.result in (
       λ e.
           subst (Led (has_at s.leads) (marked_after s t)) there
-          (led_alike (has_at s.leads) (has c.union-first.result.word) (marked_after s t) first c.input-place.result
+          (led_alike (has_at s.leads) (has c.union-first.result) (marked_after s t) first c.input-place.result
           (d.0 (sym c.has.ensures ∙ e))),
       λ r.
           c.has.ensures
           ∙ d.1
-          (led_alike (has_at s.leads) (marked_after s t) (has c.union-first.result.word) (λ p. sym (first p)) c.input-place.result
+          (led_alike (has_at s.leads) (marked_after s t) (has c.union-first.result) (λ p. sym (first p)) c.input-place.result
           (subst (Led (has_at s.leads) (marked_after s t)) (sym there) r)),
     )

@@ -1,10 +1,12 @@
-use Rattle.std.proofs.Common.{◌≡◌, ℕ, ◌<◌, true, sym, arith}
+use Rattle.std.proofs.Common.{◌≡◌, ℕ, ◌<◌, true, sym, ◌∙◌, arith}
+use Rattle.std.proofs.lemmas.Bool.{both_ways}
 use Rattle.theory.specs.Nets.{LawfulNet}
 use Rattle.theory.specs.Orders.{less}
 use Rattle.schedules.specs.declared.schedule.Schedule.{Schedule}
 use Rattle.schedules.specs.Tables.{ready_in}
-use Rattle.schedules.proofs.Chosen.{is_left, holds}
+use Rattle.schedules.proofs.Chosen.{is_left, holds, ready_from}
 use Rattle.schedules.proofs.schedule.Schedule.fire.Goals as goal
+use Rattle.schedules.proofs.schedule.Schedule.fire.Goals.{else-step-self-via-then-step-self+else-is_ready, else-step-self-via-else-step-self}
 
 pub returns-then-is_ready : goal.returns-then-is_ready
 returns-then-is_ready g c =
@@ -23,3 +25,14 @@ returns-then-is_ready g c =
             holds = holds lawful.net lawful.law m x s h t l ready;
           }));
     }
+
+pub returns-else-step-self-clause-fired : goal.returns-else-step-self-clause-fired
+returns-else-step-self-clause-fired g c m x h ready room =
+    let lawful : LawfulNet = g.N.Net.meaning c.args.net.now in
+    let t : ℕ = c.args.step in
+    elim c.else-step-self.branch [
+      | else-step-self-via-then-step-self+else-is_ready w ↦
+          absurd (both_ways (ready_in c.args.self.now t) (sym w.is_ready.ensures ∙ w.if-is_ready.false)
+          (ready_from lawful.net lawful.law m x c.args.self.now h t ready.a_step ready.left ready.holds))
+      | else-step-self-via-else-step-self w ↦ absurd (omega (arith, ready.a_step, h.steps, w.if-step-self.false))
+    ]

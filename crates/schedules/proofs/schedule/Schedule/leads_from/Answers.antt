@@ -1,5 +1,4 @@
 use Rattle.std.proofs.Common.{ℕ, Bool, ◌&&◌, sym, ap, ◌∙◌}
-use Rattle.place_sets.specs.declared.PlaceSet.{PlaceSet}
 use Rattle.place_sets.specs.Flags.{has}
 use Rattle.schedules.specs.Tables.{has_at, takes_in}
 use Rattle.schedules.proofs.Flagged.{any_joined, any_passed_over}
@@ -12,12 +11,12 @@ loop-step-preserved c p =
     let n : ℕ = c.loop-step.step in
     elim c.if-takes.branch [
       | then-takes w ↦
-          ap (λ (v : PlaceSet). has v.word p) w.leads-is ∙ w.union-leads.ensures p
+          ap (λ (v : ℕ). has v p) w.leads-is ∙ w.union-leads.ensures p
           ∙ any_joined b n _ _ (c.loop-step.invariant p)
           (w.yields.ensures.table p
           ∙ ap (λ (v : Bool). v && has_at c.args.self.now.yields n p) (sym w.if-takes.true ∙ c.takes.ensures))
       | else-takes w ↦
-          ap (λ (v : PlaceSet). has v.word p) w.leads-is
+          ap (λ (v : ℕ). has v p) w.leads-is
           ∙ any_passed_over b n _ (c.loop-step.invariant p)
           (ap (λ (v : Bool). v && has_at c.args.self.now.yields n p) (sym c.takes.ensures ∙ w.if-takes.false))
     ]

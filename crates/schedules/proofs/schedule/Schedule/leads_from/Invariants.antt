@@ -6,4 +6,4 @@ use Rattle.schedules.proofs.schedule.Schedule.leads_from.Given as goal
 
 abbrev pub invariant-loop-step : goal.invariant-loop-step
 invariant-loop-step l =
-    (p : ℕ) → has l.leads.word p ≡ any_below (λ t. takes_in l.self l.place t && has_at l.self.yields t p) l.step
+    (p : ℕ) → has l.leads p ≡ any_below (λ t. takes_in l.self l.place t && has_at l.self.yields t p) l.step

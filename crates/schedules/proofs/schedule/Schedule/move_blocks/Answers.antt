@@ -1,7 +1,6 @@
-use Rattle.std.proofs.Common.{◌≡◌, ℕ, ◌+◌, ◌-◌, ◌^◌, ◌≤◌, min, cond, not, ◌&&◌, eqb, List, length, set, sym, refl, ap, ◌∙◌, subst, arith}
+use Rattle.std.proofs.Common.{◌≡◌, ℕ, ◌+◌, ◌-◌, ◌^◌, min, cond, not, ◌&&◌, eqb, List, set, sym, refl, ap, ◌∙◌, subst, arith}
 use Rattle.theory.specs.Nets.{LawfulNet}
 use Rattle.theory.specs.Rows.{at}
-use Rattle.place_sets.specs.declared.PlaceSet.{PlaceSet}
 use Rattle.place_sets.specs.Flags.{has}
 use Rattle.schedules.specs.declared.schedule.Schedule.{Schedule}
 use Rattle.schedules.proofs.Firing.{shows_fired}
@@ -13,26 +12,24 @@ returns g c m x h l i b =
     let lawful : LawfulNet = g.N.Net.meaning c.args.net.now in
     let s : Schedule = c.args.self.now in
     let t : ℕ = c.args.step in
-    let long : 64 ≤ length c.put_at.new.row = omega arith in
     let there : c.input-place.result ≡ at s.inputs t = c.input-place.ensures.table in
-    let count : c.at_or-count.result ≡ at s.held (at s.inputs t) = c.at_or-count.ensures ∙ ap (at s.held) there in
-    let row : c.put_at.new.row ≡ set s.held (at s.inputs t) (at s.held (at s.inputs t) - 1) =
-    c.put_at.ensures
-    ∙ ap (λ (p : ℕ). set s.held p c.saturating_sub.result) there
+    let count : c.blocks_at-count.result ≡ at s.held (at s.inputs t) = c.blocks_at-count.ensures ∙ ap (at s.held) there in
+    let row : set s.held c.from.result c.saturating_sub.result ≡ set s.held (at s.inputs t) (at s.held (at s.inputs t) - 1) =
+    ap (λ (p : ℕ). set s.held p c.saturating_sub.result) (c.from.ensures ∙ there)
     ∙ ap (set s.held (at s.inputs t)) (c.saturating_sub.ensures ∙ ap (λ (v : ℕ). v - 1) count) in
-    shows_fired lawful.net lawful.law m x s h t l i _ refl refl refl refl refl refl b (has c.yields-yields.result.word) c.yields-yields.ensures.table
+    shows_fired lawful.net lawful.law m x s h t l i _ refl refl refl refl refl refl b (has c.yields-yields.result) c.yields-yields.ensures.table
     (λ q k.
-    subst (λ (r : List ℕ). at c.add_yields.new.held q ≡ cond (has c.yields-yields.result.word q) (min (at r q + lawful.net.yields t q) (2 ^ 32 - 1)) (at r q)) row
+    subst (λ (r : List ℕ). at c.add_yields.new.held q ≡ cond (has c.yields-yields.result q) (min (at r q + lawful.net.yields t q) (2 ^ 32 - 1)) (at r q)) row
     (c.add_yields.ensures q (omega (arith, lawful.law.few_places))))
-    (has c.if-count-eq1.others.word)
+    (has c.if-count-eq1.others)
     (λ q e. elim c.if-count-eq1.branch [
       | then-count-eq1 w ↦
-          ap (λ (v : PlaceSet). has v.word q) w.others-is ∙ w.without-others.ensures q
-          ∙ ap (λ (p : ℕ). has s.marked.word q && not (eqb q p)) there
+          ap (λ (v : ℕ). has v q) w.others-is ∙ w.without-others.ensures q
+          ∙ ap (λ (p : ℕ). has s.marked q && not (eqb q p)) there
       | else-count-eq1 w ↦ absurd (w.if-count-eq1.false (count ∙ e))
     ])
     (λ q d. elim c.if-count-eq1.branch [
       | then-count-eq1 w ↦ absurd (d (sym count ∙ w.if-count-eq1.true))
-      | else-count-eq1 w ↦ ap (λ (v : PlaceSet). has v.word q) w.others-is
+      | else-count-eq1 w ↦ ap (λ (v : ℕ). has v q) w.others-is
     ])
     c.union-self.ensures

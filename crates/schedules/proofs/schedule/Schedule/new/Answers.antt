@@ -11,7 +11,7 @@ returns g c =
     (record {
       steps = c.steps.ensures;
       left = λ t l. c.front-2.ensures t (omega (arith, lawful.law.few_steps));
-      inputs = c.inputs_of.ensures;
+      inputs = c.inputs_of.ensures.answer;
       yields = c.yields_of.ensures;
     })
     c.front.ensures

@@ -1,21 +1,11 @@
-use Rattle.std.proofs.Common.{ℕ, ◌<◌, sym, arith, below_more}
-use Rattle.theory.specs.Tests.{safe}
-use Rattle.theory.proofs.Decided.{least_found, none_found}
+use Rattle.std.proofs.Common.{true, false, rules}
+use Rattle.std.proofs.lemmas.Iterator.{first_from_Range}
+use Rattle.schedules.specs.Shows.{TellsSafe}
+use Rattle.schedules.proofs.Chosen.{least_safe}
 use Rattle.schedules.proofs.schedule.Schedule.next_step.Goals as goal
-
-pub returns-then-is_safe : goal.returns-then-is_safe
-returns-then-is_safe c N m x law h none =
-    let t : ℕ = c.loop-step.step in
-    let l : t < N.steps = omega (arith, c.loop-step-test.true, h.steps) in
-    sym ((least_found (safe N m x) N.steps t).1
-    (l, sym (c.if-is_safe.ensures N m x law h none l), λ k j. c.loop-step.invariant k j N m x law h none))
-
-pub loop-step-preserved : goal.loop-step-preserved
-loop-step-preserved c =
-    below_more _ _ c.loop-step.invariant
-    (λ N m x law h none. sym (c.if-is_safe.ensures N m x law h none (omega (arith, c.loop-step-test.true, h.steps))))
 
 pub returns : goal.returns
 returns c N m x law h none =
-    sym ((none_found (safe N m x) N.steps).1
-    (λ k l. c.loop-step.invariant k (omega (arith, c.loop-step-test.false, h.steps)) N m x law h none))
+    least_safe N law m x c.args.self.now h none c.find.result
+    (first_from_Range _ _ _ c.find.result (λ t. TellsSafe c.args.self.now t true) (λ t. TellsSafe c.args.self.now t false) c.find.ensures.ran
+    (λ t q e. search rules) (λ t q e. search rules))

@@ -6,8 +6,8 @@ use Rattle.schedules.proofs.schedule.Schedule.reached_from.Given as goal
 
 abbrev pub invariant-loop-place : goal.invariant-loop-place
 invariant-loop-place l =
-    Searching (has_at l.self.leads) (has l.initial.seen.word) (has l.seen.word) (has l.done.word)
-    × (l.done.word < 2 ^ 64)
+    Searching (has_at l.self.leads) (has l.initial.seen) (has l.seen) (has l.done)
+    × (l.done < 2 ^ 64)
 
 abbrev pub decreases-loop-place : goal.decreases-loop-place
-decreases-loop-place l = 2 ^ 64 - l.done.word
+decreases-loop-place l = 2 ^ 64 - l.done

@@ -7,22 +7,16 @@ use Rattle.schedules.proofs.schedule.Schedule.takers_at.Goals.{then-takes, else-
 
 pub loop-step-init : goal.loop-step-init
 unfolding sum_to
-loop-step-init c = (omega arith, λ _. refl)
+loop-step-init c = (omega arith, refl)
 
 pub loop-step-preserved : goal.loop-step-preserved
 loop-step-preserved c = elim c.if-takes.branch [
-  | then-takes w ↦ (
-    omega (arith, w.takers-is, w.saturating_add-takers.ensures),
-    λ few.
-        let h = count_more (takes_in c.args.self.now c.args.place) c.loop-step.step c.loop-step.takers true
-        (c.loop-step.invariant.1 few) (sym w.if-takes.true ∙ c.takes.ensures) in
-        (omega (arith, w.takers-is, w.saturating_add-takers.ensures)) ∙ h,
-  )
-  | else-takes w ↦ (
-    omega (arith, w.takers-is),
-    λ few.
-        let h = count_more (takes_in c.args.self.now c.args.place) c.loop-step.step c.loop-step.takers false
-        (c.loop-step.invariant.1 few) (sym w.if-takes.false ∙ c.takes.ensures) in
-        (omega (arith, w.takers-is)) ∙ h,
-  )
+  | then-takes w ↦
+      let h = count_more (takes_in c.args.self.now c.args.place) c.loop-step.step c.loop-step.takers true
+      c.loop-step.invariant.1 (sym w.if-takes.true ∙ c.takes.ensures) in
+      (omega (arith, w.takers-is), omega (arith, w.takers-is) ∙ h)
+  | else-takes w ↦
+      let h = count_more (takes_in c.args.self.now c.args.place) c.loop-step.step c.loop-step.takers false
+      c.loop-step.invariant.1 (sym w.if-takes.false ∙ c.takes.ensures) in
+      (omega (arith, w.takers-is), omega (arith, w.takers-is) ∙ h)
 ]

@@ -6,4 +6,4 @@ use Rattle.schedules.proofs.schedule.Schedule.takers_at.Given as goal
 abbrev pub invariant-loop-step : goal.invariant-loop-step
 invariant-loop-step l =
     (l.takers ≤ l.step)
-    × (l.self.steps ≤ 128 → l.takers ≡ sum_to (λ t. cond (takes_in l.self l.place t) 1 0) l.step)
+    × (l.takers ≡ sum_to (λ t. cond (takes_in l.self l.place t) 1 0) l.step)

@@ -7,5 +7,5 @@ use Rattle.schedules.proofs.schedule.Schedule.used.Given as goal
 
 abbrev pub invariant-loop-step : goal.invariant-loop-step
 invariant-loop-step l =
-    (p : ℕ) → has l.used.word p
+    (p : ℕ) → has l.used p
     ≡ any_below (λ t. ltb 0 (at l.self.left t) && ((eqb p (at l.self.inputs t) && ltb (at l.self.inputs t) 64) || has_at l.self.yields t p)) l.step
