@@ -11,6 +11,14 @@ use Rattle.schedules.specs.declared.schedule.Schedule.{Schedule}
 abbrev pub has_at : List ℕ → ℕ → ℕ → Bool
 has_at row i p = has (at row i) p
 
+-- the place at which the step t takes
+abbrev pub input_in : Schedule → ℕ → ℕ
+input_in s t = at s.inputs t
+
+-- the step t yields at p
+abbrev pub yields_in : Schedule → ℕ → ℕ → Bool
+yields_in s t p = has_at s.yields t p
+
 -- the set w has the places at which t yields
 pub record HoldsYields (N : NetMeaning) (t w : ℕ) : Type 0 where
   pub there : (p : ℕ) → has w p ≡ nat_lt 0 (N.yields t p)

@@ -99,6 +99,7 @@ impl Schedule {
     fn leads_from(&self, place: u8) -> PlaceSet
         ensures { (p : ℕ) → has result p ≡ leads_in self.now place p }
     {
+        // No plainer as a `fold`: its closure would hold the same test and give the set back in both arms.
         let mut leads = PlaceSet::empty();
         for step in 0..self.steps {
             if self.takes(step, place) {
@@ -112,6 +113,7 @@ impl Schedule {
     fn takers_at(&self, place: u8) -> u8
         ensures { result ≡ takers_in self.now place }
     {
+        // `filter` and `count` over the range were tried: the sum over its numbers stayed open.
         let mut takers = 0;
         for step in 0..self.steps {
             if self.takes(step, place) {

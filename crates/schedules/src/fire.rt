@@ -16,6 +16,7 @@ use place_sets::PlaceSet;
 fn add_yields<N: Net>(held: &mut [u32; PLACES], net: &N, step: u16, places: PlaceSet)
     ensures { (p : ℕ) → p < 64 → at held.new p ≡ (if has places p then min (at held.old p + (N.meaning net.now).net.yields step p) (2 ^ 32 - 1) else at held.old p) }
 {
+    // The only walk over a set: an iterator for it would be longer than the loop and no plainer.
     let mut done = PlaceSet::empty();
     while let Some(place) = places.minus(done).first() {
         let yielded = u32::from(net.yield_at(step, place));

@@ -21,6 +21,7 @@ impl Schedule {
     fn used(&self) -> PlaceSet
         ensures { (p : ℕ) → has result p ≡ in_use self.now p }
     {
+        // No plainer as a `fold`: its closure would hold the same test and give the set back in both arms.
         let mut used = PlaceSet::empty();
         for step in 0..self.steps {
             if self.times_left(step) > 0 {
@@ -34,6 +35,7 @@ impl Schedule {
     pub(crate) fn reached_from(&self, first: PlaceSet) -> PlaceSet
         ensures { (p : ℕ) → Decides (has result p) (Led (has_at self.now.leads) (has first) p) }
     {
+        // A work list: each turn may add places to `seen`, so no walk over one set will do.
         let mut seen = first;
         let mut done = PlaceSet::empty();
         while let Some(place) = seen.minus(done).first() {

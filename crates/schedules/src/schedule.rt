@@ -7,6 +7,7 @@ use place_sets::PlaceSet;
 
 /// The blocks (tokens) at each place, how often each step is still to be done, and where blocks
 /// can come from there.
+// One row for each kind of number: the search for the next step reads little but `left`.
 #[derive(Drop)]
 pub struct Schedule {
     pub(crate) steps: u16,
@@ -31,14 +32,14 @@ pub(crate) const STEPS: usize = 128;
 impl Schedule {
     ghost use Rattle.place_sets.specs.Flags.{has};
     ghost use Rattle.schedules.specs.Shows.{Shows};
-    ghost use Rattle.schedules.specs.Tables.{has_at};
+    ghost use Rattle.schedules.specs.Tables.{input_in, yields_in};
     ghost use Rattle.theory.specs.Firing.{Marking};
     ghost use Rattle.theory.specs.Nets.{NetMeaning};
     ghost use Rattle.theory.specs.Tallies.{Tally};
 
     /// The place at which a step takes its block; 0 past the last step.
     pub fn input(&self, step: u16) -> u8
-        ensures table { result ≡ at self.now.inputs step }
+        ensures table { result ≡ input_in self.now step }
         ensures inside { result < 64 }
         ensures shown { (N : NetMeaning) (m : Marking) (x : Tally) → Shows N m x self.now → result ≡ N.input step }
     {
@@ -47,7 +48,7 @@ impl Schedule {
 
     /// The places at which a step yields; none past the last step.
     pub fn yields(&self, step: u16) -> PlaceSet
-        ensures table { (p : ℕ) → has result p ≡ has_at self.now.yields step p }
+        ensures table { (p : ℕ) → has result p ≡ yields_in self.now step p }
         ensures shown { (N : NetMeaning) (m : Marking) (x : Tally) → Shows N m x self.now → (p : ℕ) → has result p ≡ nat_lt 0 (N.yields step p) }
     {
         self.yields
