@@ -1,18 +1,7 @@
 -- The digits of a number, and of a row of numbers.
-use Rattle.std.proofs.Common.{◌≡◌, ℕ, ◌+◌, ◌/◌, ◌%◌, ◌<◌, ◌≤◌, List, [], ◌∷◌, ◌++◌, length, get_or, take, drop, decimal, sym, refl, ap, ◌∙◌, append_assoc, arith, length-append}
-use Rattle.std.proofs.lemmas.Fmt.{decimal_digit, decimal_step, length-decimal-le}
+use Rattle.std.proofs.Common.{◌≡◌, ℕ, ◌+◌, ◌<◌, ◌≤◌, List, [], ◌∷◌, ◌++◌, length, get_or, take, drop, decimal, sym, refl, ap, ◌∙◌, append_assoc, arith, length-append}
 use Rattle.std.proofs.lemmas.List.{append-nil, take_more, take-append-drop}
 use Rattle.lines.specs.Lines.{numbers, words}
-
-pub one_digit : (n : ℕ) → n < 10 → length (decimal n) ≡ 1
-one_digit n h = ap length (decimal_digit n h)
-
-pub more_digits : (n : ℕ) → 10 ≤ n → n < 65536 → length (decimal n) ≡ 1 + length (decimal (n / 10))
-more_digits n h k =
-    ap length (decimal_step n h (omega arith)) ∙ length-append (decimal (n / 10)) ((48 + n % 10) ∷ []) ∙ omega arith
-
-pub few_digits : (n : ℕ) → n < 65536 → length (decimal n) ≤ 5
-few_digits n h = length-decimal-le 5 n (omega arith) (omega arith) (omega arith)
 
 pub numbers_both : (a b : List ℕ) → numbers (a ++ b) ≡ numbers a ++ numbers b
 numbers_both [] b = refl

@@ -7,12 +7,9 @@ mod numbers;
 mod room;
 
 use lists::BoundedList;
-use numbers::{add_byte, add_bytes, add_numbers};
+use numbers::{add_bytes, add_numbers};
 use refusals::Refusal;
 use room::room_after;
-
-/// The byte that ends a line.
-const LINE_END: u8 = b'\n';
 
 /// Writes the line of an accepted sheet from the front of the text memory, and answers its length: `ok`
 /// and the steps of the order. Refused, before anything is written, where the memory is too short.
@@ -27,7 +24,7 @@ pub fn write_order(text: &mut [u8], order: &[u16]) -> Result<usize, Refusal>
 pub fn write_refusal(text: &mut [u8], refusal: Refusal) -> Result<usize, Refusal>
     ensures { LineWritten (no_line refusal) text.old result text.new }
 {
-    let numbers = [refusal.number() as u16, refusal.detail()];
+    let numbers = [u16::from(refusal.number()), refusal.detail()];
     write_words(text, b"no", &numbers)
 }
 
@@ -35,15 +32,13 @@ pub fn write_refusal(text: &mut [u8], refusal: Refusal) -> Result<usize, Refusal
 fn write_words(text: &mut [u8], word: &[u8], row: &[u16]) -> Result<usize, Refusal>
     ensures { LineWritten (words word.now row.now) text.old result text.new }
 {
-    let Some(left) = room_after(text.len(), row) else {
-        return Err(Refusal::TextMemoryShort);
-    };
+    let left = room_after(text.len(), row).ok_or(Refusal::TextMemoryShort)?;
     if left <= word.len() {
         return Err(Refusal::TextMemoryShort);
     }
     let mut line = BoundedList::new(text);
     add_bytes(&mut line, word);
     add_numbers(&mut line, row);
-    add_byte(&mut line, LINE_END);
+    add_bytes(&mut line, b"\n");
     Ok(line.len())
 }
