@@ -7,14 +7,14 @@ use Rattle.refusals.specs.declared.Refusal.{Refusal}
 use Rattle.theory.specs.Nets.{NetMeaning, NetLaw}
 use Rattle.formats.specs.Chained.{chained_steps, chained_arcs}
 use Rattle.answers.specs.States.{State, Target}
-use Rattle.answers.specs.Answers.{unless, written, resume_refusal, the_order, resume_answer, order_memory}
+use Rattle.answers.specs.Answers.{unless, written, resume_refusal, the_order, resume_answer}
 use Rattle.answers.proofs.Unless.{unless_refused}
 use Rattle.answers.proofs.Options.{or_first}
 use Rattle.answers.proofs.Resumes.{long_now, fits_now}
 use Rattle.sittings.proofs.Resumed.{accepted_with}
 use Rattle.sheets.specs.Parts.{net_file, net_of, tally_of, target_in}
 use Rattle.sheets.specs.Verdicts.{form_refusal, sitting_of, sheet_refusal, sheet_order, order_entries}
-use Rattle.sheets.specs.Found.{Found}
+use Rattle.sheets.specs.Found.{Resumed, Found}
 
 -- what is said of a net, a state, a tally and a target is said of equal ones
 pub like : (P : NetMeaning → State → List ℕ → Target → Type 0) (N N' : NetMeaning) (s s' : State) (tally tally' : List ℕ) (T T' : Target) →
@@ -25,11 +25,6 @@ like P N N' s s' tally tally' T T' a b c d p =
     let C : List ℕ → Type 0 = λ z. P N' s' z T in
     let D : Target → Type 0 = λ z. P N' s' tally' z in
     subst D d (subst C c (subst B b (subst A a p)))
-
--- an answer and a memory, as a resume gives them
-pub record Resumed (r : Result ℕ Refusal) (memory memory' : List ℕ) (N : NetMeaning) (s : State) (tally : List ℕ) (T : Target) : Type 0 where
-  pub answer : r ≡ resume_answer N s tally T (length memory)
-  pub order : memory' ≡ order_memory N s tally T memory
 
 pub first_none : {A : Type 0} (o x : Option A) → o ≡ None → option_or o x ≡ x
 first_none o x e = ap (λ z. option_or z x) e

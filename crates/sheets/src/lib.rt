@@ -12,6 +12,9 @@ use lines::{write_order, write_refusal};
 use refusals::Refusal;
 use verdict::{ORDER_ENTRIES, find_order};
 
+/// The longest line: `ok`, 4,096 steps of three digits, each after a space, and the line's end.
+pub const LONGEST_LINE: usize = 16387;
+
 /// Judges a sheet: writes its line from the front of the text memory, alters no more of it, and answers
 /// the line's length. Refused only where the memory is too short for the line.
 pub fn judge(sheet: &[u8], text: &mut [u8]) -> Result<usize, Refusal>
@@ -20,7 +23,7 @@ pub fn judge(sheet: &[u8], text: &mut [u8]) -> Result<usize, Refusal>
 {
     let mut order = [0u16; ORDER_ENTRIES];
     match find_order(sheet, &mut order) {
-        Ok(length) => write_order(text, &order[0..length]),
+        Ok(length) => write_order(text, &order[..length]),
         Err(refusal) => write_refusal(text, refusal),
     }
 }

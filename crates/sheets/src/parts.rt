@@ -23,8 +23,8 @@ pub(crate) struct Parts {
 pub(crate) fn parts_of(sheet: &[u8]) -> Parts
     ensures { PartsOf sheet.now result }
 {
-    let places = byte_at(sheet, 0) as usize;
-    let steps = byte_at(sheet, 1) as usize;
+    let places = usize::from(byte_at(sheet, 0));
+    let steps = usize::from(byte_at(sheet, 1));
     let starts = file_end(sheet);
     let tallies = starts + 4 * places;
     let kind = tallies + 2 * steps;
@@ -49,6 +49,5 @@ pub(crate) fn load_net<'a>(
     ensures after { result ≡ Ok tt → net.new.file.now ≡ net_file sheet.now }
 {
     check_head_to(sheet, parts.end)?;
-    let end = parts.starts;
-    net.load(&sheet[0..end])
+    net.load(&sheet[..parts.starts])
 }

@@ -4,6 +4,9 @@ ghost use Rattle.sheets.specs.Parts.{fours, twos, below};
 ghost use Rattle.theory.specs.Rows.{at};
 
 use nets::bytes::{four_at, pair_at};
+use std::array;
+
+// One generic function would be no plainer: it is handed the size, the reader and a zero, all for one line.
 
 /// So many four-byte numbers that begin at a byte, and zeros behind them.
 pub(crate) fn read_fours(sheet: &[u8], begin: usize, count: u8) -> [u32; 64]
@@ -12,11 +15,10 @@ pub(crate) fn read_fours(sheet: &[u8], begin: usize, count: u8) -> [u32; 64]
     ensures long { length result ≡ 64 }
     ensures numbers { (p : ℕ) → at result p ≡ below count (fours sheet.now begin) p }
 {
-    let mut row = [0; 64];
-    for place in 0..count as usize {
-        row[place] = four_at(sheet, begin + 4 * place);
-    }
-    row
+    let count = usize::from(count);
+    array::from_fn(|p| (p < count)
+        .then(|| four_at(sheet, begin + 4 * p))
+        .unwrap_or(0))
 }
 
 /// So many two-byte numbers that begin at a byte, and zeros behind them.
@@ -26,9 +28,8 @@ pub(crate) fn read_twos(sheet: &[u8], begin: usize, count: u16) -> [u16; 128]
     ensures long { length result ≡ 128 }
     ensures numbers { (t : ℕ) → at result t ≡ below count (twos sheet.now begin) t }
 {
-    let mut row = [0; 128];
-    for step in 0..count as usize {
-        row[step] = pair_at(sheet, begin + 2 * step);
-    }
-    row
+    let count = usize::from(count);
+    array::from_fn(|t| (t < count)
+        .then(|| pair_at(sheet, begin + 2 * t))
+        .unwrap_or(0))
 }

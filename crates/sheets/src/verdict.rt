@@ -1,12 +1,11 @@
 //! Why a sheet is refused, or the first order of its tally.
 ghost use Rattle.std.specs.Prelude.{◌≡◌, ◌≤◌, min, true, false, length, IfOk, MatchResult};
-ghost use Rattle.answers.specs.Answers.{resume_answer, order_memory};
 ghost use Rattle.answers.specs.States.{new_on};
 ghost use Rattle.boards.specs.Rows.{at_place};
 ghost use Rattle.formats.specs.Chained.{chained_places, chained_steps};
 ghost use Rattle.layers.specs.Renamings.{renamed};
 ghost use Rattle.refusals.specs.declared.Refusal.TheVariants.{BoardRowUnfit};
-ghost use Rattle.sheets.specs.Found.{PartsOf, Found};
+ghost use Rattle.sheets.specs.Found.{PartsOf, Resumed, Found};
 ghost use Rattle.sheets.specs.Parts.{tally_of, target_in};
 ghost use Rattle.sheets.specs.Verdicts.{unlawful, spare_given, order_entries};
 ghost use Rattle.theory.specs.Rows.{at};
@@ -37,7 +36,7 @@ const AT_LEAST: u8 = 1;
 /// count board with the start counts.
 fn board_of(starts: &[u32]) -> Result<Renaming<Allowance<CountBoard>>, Refusal>
     requires { length starts.now ≡ 64 }
-    ensures { MatchResult result (λ b. (unlawful (at starts.now) ≡ false) × (renamed b.row (at_place b.below.below.counts) ≡ at starts.now) × (min b.below.left b.below.below.spare ≡ spare_given)) (λ e. (unlawful (at starts.now) ≡ true) × (e ≡ BoardRowUnfit)) }
+    ensures { MatchResult result (λ b. let counts = renamed b.row (at_place b.below.below.counts) in let spare = min b.below.left b.below.below.spare in (unlawful (at starts.now) ≡ false) × (counts ≡ at starts.now) × (spare ≡ spare_given)) (λ e. (unlawful (at starts.now) ≡ true) × (e ≡ BoardRowUnfit)) }
 {
     let mut board = CountBoard::new();
     board.load(starts, SPARE)?;
@@ -55,20 +54,19 @@ fn resume_sheet<N: Net + Drop, B: Board + Drop>(
     requires parts { PartsOf sheet.now parts }
     requires places { (N.meaning net).net.places ≡ chained_places sheet.now }
     requires steps { (N.meaning net).net.steps ≡ chained_steps sheet.now }
-    ensures answer { result ≡ resume_answer (N.meaning net).net (new_on (B.counts board) (B.spare board)) (tally_of sheet.now) (target_in sheet.now) (length order.old) }
+    ensures resumed { Resumed result order.old order.new (N.meaning net).net (new_on (B.counts board) (B.spare board)) (tally_of sheet.now) (target_in sheet.now) }
     ensures fits { IfOk result (λ n. n ≤ length order.old) }
-    ensures memory { order.new ≡ order_memory (N.meaning net).net (new_on (B.counts board) (B.spare board)) (tally_of sheet.now) (target_in sheet.now) order.old }
 {
     let places = net.places();
     let steps = net.steps();
     let tally = read_twos(sheet, parts.tallies, steps);
     let numbers = read_fours(sheet, parts.targets, places);
     let target = Target {
-        numbers: &numbers[0..places as usize],
+        numbers: &numbers[..usize::from(places)],
         kind: byte_at(sheet, parts.kind),
     };
     let mut sitting = Sitting::new(net, board);
-    sitting.resume(&tally[0..steps as usize], target, order)
+    sitting.resume(&tally[..usize::from(steps)], target, order)
 }
 
 /// Judges a sheet: writes the first order of its tally from the front of the order memory and answers

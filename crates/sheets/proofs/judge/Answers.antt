@@ -1,4 +1,4 @@
-use Rattle.std.proofs.Common.{◌≡◌, ℕ, ◌-◌, ◌≤◌, List, length, take, drop, replicate, Some, None, Ok, sym, ap, ◌∙◌, subst, arith, rules}
+use Rattle.std.proofs.Common.{◌≡◌, ℕ, ◌≤◌, List, length, take, drop, replicate, Some, None, Ok, sym, ap, ◌∙◌, subst, arith, rules}
 use lib.ListN.{length-replicate}
 use Rattle.std.proofs.lemmas.List.{take_at}
 use Rattle.refusals.specs.Answered.{answered}
@@ -25,9 +25,9 @@ returns-in-Ok c =
     let none : sheet_refusal sheet ≡ None = accepted_with (sheet_refusal sheet) (length order) n (sym c.in-Ok.is ∙ found.answer) in
     let long : n ≡ length order =
     let w : Ok n ≡ answered None (length order) = sym c.in-Ok.is ∙ found.answer ∙ ap (λ z. answered z (length order)) none in cc in
-    let part : take (n - 0) c.find_order.new.order ≡ order =
-    ap (take (n - 0)) (found.order ∙ ap (λ z. unless z memory (written order memory)) none) ∙ take_at order (drop (length order) memory) (n - 0) (omega arith) in
-    let line : ok_line (take (n - 0) c.find_order.new.order) ≡ sheet_line sheet = ap ok_line part ∙ ap (λ z. line_for z order) (sym none) in
+    let part : take n c.find_order.new.order ≡ order =
+    ap (take n) (found.order ∙ ap (λ z. unless z memory (written order memory)) none) ∙ take_at order (drop (length order) memory) n (omega arith) in
+    let line : ok_line (take n c.find_order.new.order) ≡ sheet_line sheet = ap ok_line part ∙ ap (λ z. line_for z order) (sym none) in
     let L : List ℕ → Type 0 = λ z. LineWritten z c.args.text.now c.write_order.result c.write_order.new.text in
     record { line = subst L line c.write_order.ensures; verdict = judged sheet (λ i. omega (arith, c.type_inv.sheet i)) }
 

@@ -1,4 +1,4 @@
-use Rattle.std.proofs.Common.{◌≡◌, ℕ, ◌-◌, cond, take, is_ok, Some, None, Ok, Err, sym, ap, ◌∙◌, arith, rules}
+use Rattle.std.proofs.Common.{◌≡◌, ℕ, cond, take, is_ok, Some, None, Ok, Err, sym, ap, ◌∙◌, arith, rules}
 use Rattle.refusals.specs.Answered.{answered}
 use Rattle.formats.specs.Chained.{head_refusal, chained_refusal}
 use Rattle.answers.proofs.Options.{or_first}
@@ -29,8 +29,8 @@ returns c =
     let checked : Ok c.in_ok-check_head_to.field-0 ≡ answered head tt =
     sym c.in_ok-check_head_to.was ∙ c.check_head_to.ensures ∙ ap (λ z. answered (head_refusal sheet z) tt) c.requires.end in
     let none : head ≡ None = accepted_with head tt c.in_ok-check_head_to.field-0 checked in
-    let n = c.args.parts.starts - 0 in
-    let file : take n sheet ≡ net_file sheet = ap (λ z. take z sheet) (omega (arith, c.requires.starts)) in
+    let n = c.args.parts.starts in
+    let file : take n sheet ≡ net_file sheet = ap (λ z. take z sheet) c.requires.starts in
     let loaded : c.load.result ≡ answered (chained_refusal (take n sheet)) tt = c.load.ensures.answer in
     let kept : c.load.new.self.file.now ≡ cond (is_ok c.load.result) (take n sheet) c.args.net.now.file.now = c.load.ensures.after in
     record {

@@ -1,20 +1,11 @@
-use Rattle.std.proofs.Common.{◌≡◌, refl, ap, ◌∙◌, arith, length-set}
+use Rattle.std.proofs.Common.{rules}
+use Rattle.theory.proofs.Filled.{filled_at}
 use Rattle.sheets.specs.Parts.{fours, below}
-use Rattle.sheets.proofs.Filled.{filled_none, filled_more}
+use Rattle.sheets.proofs.Filled.{filled_row}
 use Rattle.sheets.proofs.rows.read_fours.Goals as goal
 
-pub loop-place-init : goal.loop-place-init
-loop-place-init c = (refl, filled_none 64 (fours c.args.sheet.now c.args.begin))
-
-pub loop-place-preserved : goal.loop-place-preserved
-loop-place-preserved c =
-    let i = c.loop-place.place in
-    let row = c.loop-place.row in (
-      length-set row i _ ∙ c.loop-place.invariant.0,
-      filled_more row (fours c.args.sheet.now c.args.begin) i _ (omega (arith, c.loop-place.invariant.0, c.loop-place-test.true, c.requires.count)) c.four_at.ensures c.loop-place.invariant.1,
-    )
-
-pub returns : goal.returns
-returns c =
-    let e : c.loop-place.place ≡ c.args.count = omega arith in
-    record { long = c.loop-place.invariant.0; numbers = λ i. c.loop-place.invariant.1 i ∙ ap (λ n. below n (fours c.args.sheet.now c.args.begin) i) e }
+pub returns-clause-numbers : goal.returns-clause-numbers
+returns-clause-numbers c =
+    let f = fours c.args.sheet.now c.args.begin in
+    filled_row c.from_fn.result 64 c.args.count f (search rules) c.requires.count
+    (λ i h. filled_at _ _ (below c.args.count f) (λ x r q e. search rules) c.from_fn.ensures.items i 0 h)

@@ -13,7 +13,8 @@ use Rattle.sittings.proofs.Resumed.{refused_with, accepted_with}
 use Rattle.sheets.specs.Parts.{below, fours, net_of, start_of, kind_of, tally_of, target_in}
 use Rattle.sheets.specs.Verdicts.{net_refusal, kind_unknown, unlawful, sitting_of}
 use Rattle.sheets.proofs.Forms.{same_form}
-use Rattle.sheets.proofs.Finding.{like, Resumed, head_kept, found_unfit, found_resumed}
+use Rattle.sheets.specs.Found.{Resumed}
+use Rattle.sheets.proofs.Finding.{like, head_kept, found_unfit, found_resumed}
 use Rattle.sheets.proofs.verdict.find_order.Goals as goal
 
 pub returns-in_err-load_net : goal.returns-in_err-load_net
@@ -90,7 +91,5 @@ returns c =
     let form = same_form (net_refusal sheet) None (kind_unknown sheet) false (unlawful (start_of sheet)) false net kind (sym (ap unlawful starts) ∙ fits.0) in
     let board : new_on counts spare ≡ sitting_of sheet = ap (λ z. new_on z spare) (fits.1 ∙ starts) ∙ ap (new_on (start_of sheet)) fits.2 in
     let N = chained_net c.load_net.new.net.file.now in
-    let resumed : Resumed r memory memory' N (new_on counts spare) (tally_of sheet) (target_in sheet) =
-    record { answer = c.resume_sheet.ensures.answer; order = c.resume_sheet.ensures.memory } in
     found_resumed sheet memory r memory' c.requires form c.resume_sheet.ensures.fits
-    (like (Resumed r memory memory') N (net_of sheet) (new_on counts spare) (sitting_of sheet) (tally_of sheet) (tally_of sheet) (target_in sheet) (target_in sheet) (ap chained_net file) board refl refl resumed)
+    (like (Resumed r memory memory') N (net_of sheet) (new_on counts spare) (sitting_of sheet) (tally_of sheet) (tally_of sheet) (target_in sheet) (target_in sheet) (ap chained_net file) board refl refl c.resume_sheet.ensures.resumed)
