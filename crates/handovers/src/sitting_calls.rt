@@ -1,5 +1,8 @@
 //! The calls of a sitting as values, and what is said to them.
+ghost use Rattle.std.specs.Prelude.{◌≡◌};
+
 use answers::Finding;
+use checks::Target;
 use refusals::Refusal;
 
 /// What a resume or a survey is given: a tally, a target and how many entries its memory has.
@@ -11,6 +14,19 @@ pub struct Request {
     pub memory: usize,
 }
 
+impl Request {
+    /// The target.
+    pub(crate) fn target(&self) -> Target<'_>
+        ensures numbers { result.numbers.now ≡ self.now.numbers.items }
+        ensures kind { result.kind ≡ self.now.kind }
+    {
+        Target {
+            numbers: self.numbers.as_slice(),
+            kind: self.kind,
+        }
+    }
+}
+
 /// A call on a sitting.
 #[derive(Drop)]
 pub enum Call {
@@ -19,15 +35,15 @@ pub enum Call {
     Survey(Request),
 }
 
-/// What is said to a call.
+/// What an accepted call did.
 #[derive(Drop)]
-pub enum Answer {
-    /// It was refused.
-    Refused(Refusal),
-    /// A fire was accepted.
+pub enum Done {
     Fired,
-    /// A resume was accepted, and wrote this order.
+    /// A resume wrote this order.
     Order(Vec<u16>),
-    /// A survey was accepted, and listed these findings.
+    /// A survey listed these findings.
     Findings(Vec<Finding>),
 }
+
+/// What is said to a call: what it did, or why it is refused.
+pub type Answer = Result<Done, Refusal>;
