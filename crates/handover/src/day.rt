@@ -21,7 +21,7 @@ const SIZES: Sizes = Sizes {
 /// What the lines of a file say.
 #[derive(Drop)]
 pub(crate) struct Day<'a> {
-    heap: Global,
+    alloc: Global,
     net: Option<NetFile>,
     start: Option<Vec<u32>>,
     pub(crate) second: SecondBoard,
@@ -32,25 +32,25 @@ pub(crate) struct Day<'a> {
 }
 
 impl<'a> Day<'a> {
-    fn new(heap: Global) -> Day<'a> {
+    fn new(alloc: Global) -> Day<'a> {
         Day {
-            heap,
+            alloc,
             net: None,
             start: None,
-            second: SecondBoard::new(),
+            second: SecondBoard::default(),
             sizes: SIZES,
-            asked: Vec::new(heap),
-            calls: Vec::new(heap),
+            asked: Vec::new(alloc),
+            calls: Vec::new(alloc),
         }
     }
 
     /// The day that a text tells of.
-    pub(crate) fn read(heap: Global, text: &'a str) -> anyhow::Result<Day<'a>> {
-        let mut day = Day::new(heap);
+    pub(crate) fn read(alloc: Global, text: &'a str) -> anyhow::Result<Day<'a>> {
+        let mut day = Day::new(alloc);
         for (before, line) in text.lines().enumerate() {
             if let Err(fault) = day.read_line(code(line)) {
                 let number = before.saturating_add(1);
-                return Err(anyhow!(format!(in heap; "line {number}: {fault}")?));
+                return Err(anyhow!(format!(in alloc; "line {number}: {fault}")?));
             }
         }
         Ok(day)
@@ -58,25 +58,21 @@ impl<'a> Day<'a> {
 
     /// The bytes of the net as a grid net.
     pub(crate) fn net_bytes(&self) -> anyhow::Result<Vec<u8>> {
-        match &self.net {
-            Some(net) => Ok(net.bytes(self.heap)?),
-            None => Err(Unfit::NoPlaces.into()),
-        }
+        let net = self.net.as_ref().ok_or(Unfit::NoPlaces)?;
+        Ok(net.bytes(self.alloc)?)
     }
 
     /// How many blocks lie at each place of the net at the start.
     pub(crate) fn start(&self) -> Result<&[u32], Unfit> {
-        match &self.start {
-            Some(start) => Ok(start.as_slice()),
-            None => Err(Unfit::NoStart),
-        }
+        let start = self.start.as_ref().ok_or(Unfit::NoStart)?;
+        Ok(start.as_slice())
     }
 
     fn read_line(&mut self, code: &'a str) -> Result<(), Fault<'a>> {
-        let words = words(self.heap, code)?;
-        match lines::read(self.heap, words.as_slice(), self.sizes)? {
+        let words = words(self.alloc, code)?;
+        match lines::read(self.alloc, words.as_slice(), self.sizes)? {
             Line::Nothing => Ok(()),
-            Line::Places(places) => once(&mut self.net, NetFile::new(self.heap, places), "places"),
+            Line::Places(places) => once(&mut self.net, NetFile::new(self.alloc, places), "places"),
             Line::Step(input, yields) => self.add_step(input, yields.as_slice()),
             Line::Start(start) => self.set_start(start),
             Line::Rename(row) => once(&mut self.second.rename, row, "rename"),
@@ -95,18 +91,14 @@ impl<'a> Day<'a> {
     }
 
     fn add_step(&mut self, input: u8, yields: &[Yield]) -> Result<(), Fault<'a>> {
-        match &mut self.net {
-            Some(net) => net.add_step(self.heap, input, yields),
-            None => Err(Fault::BeforePlaces("step")),
-        }
+        let net = self.net.as_mut().ok_or(Fault::BeforePlaces("step"))?;
+        net.add_step(self.alloc, input, yields)
     }
 
     fn set_start(&mut self, start: Vec<u32>) -> Result<(), Fault<'a>> {
-        let Some(net) = &self.net else {
-            return Err(Fault::BeforePlaces("start"));
-        };
+        let net = self.net.as_ref().ok_or(Fault::BeforePlaces("start"))?;
         let places = net.places();
-        if start.len() != places as usize {
+        if start.len() != usize::from(places) {
             return Err(Fault::StartLength(start.len(), places));
         }
         once(&mut self.start, start, "start")

@@ -1,6 +1,7 @@
 //! The lines of a hand-over file: what each one says.
 use crate::faults::Fault;
 use crate::words::{number_of, numbers_of, only_number};
+use answers::Kind;
 use boards::board::LAST_PLACE;
 use handovers::sitting_calls::{Call, Request};
 use std::alloc::Global;
@@ -36,23 +37,19 @@ pub(crate) enum Line {
 
 const STEP: &str = "step from P yields N at P, N at P, ..";
 
-const EXACT: u8 = 0;
-
-const AT_LEAST: u8 = 1;
-
 /// What a line with these words says; a call gets memory of these sizes.
-pub(crate) fn read<'a>(heap: Global, words: &[&'a str], sizes: Sizes) -> Result<Line, Fault<'a>> {
+pub(crate) fn read<'a>(alloc: Global, words: &[&'a str], sizes: Sizes) -> Result<Line, Fault<'a>> {
     let Some((first, rest)) = words.split_first() else {
         return Ok(Line::Nothing);
     };
     match *first {
         "places" => Ok(Line::Places(only_number(rest, "places N")?)),
-        "step" => step(heap, rest),
-        "start" => Ok(Line::Start(numbers_of(heap, rest)?)),
-        "rename" => renaming(heap, rest),
+        "step" => step(alloc, rest),
+        "start" => Ok(Line::Start(numbers_of(alloc, rest)?)),
+        "rename" => renaming(alloc, rest),
         "fire" => Ok(Line::Call(Call::Fire(only_number(rest, "fire T")?))),
-        "resume" => Ok(Line::Call(Call::Resume(request(heap, rest, sizes.order)?))),
-        "survey" => Ok(Line::Call(Call::Survey(request(heap, rest, sizes.findings)?))),
+        "resume" => Ok(Line::Call(Call::Resume(request(alloc, rest, sizes.order)?))),
+        "survey" => Ok(Line::Call(Call::Survey(request(alloc, rest, sizes.findings)?))),
         _ => setting(*first, rest),
     }
 }
@@ -69,23 +66,21 @@ fn setting<'a>(first: &'a str, rest: &[&'a str]) -> Result<Line, Fault<'a>> {
 }
 
 /// A renaming: what each place stands for; a place without a number stands for itself.
-fn renaming<'a>(heap: Global, words: &[&'a str]) -> Result<Line, Fault<'a>> {
-    let mut row = numbers_of(heap, words)?;
-    for place in 0..=LAST_PLACE {
-        if row.len() <= place as usize {
-            row.push(place)?;
-        }
+fn renaming<'a>(alloc: Global, words: &[&'a str]) -> Result<Line, Fault<'a>> {
+    let mut row = numbers_of(alloc, words)?;
+    for place in (0..=LAST_PLACE).skip(row.len()) {
+        row.push(place)?;
     }
     Ok(Line::Rename(row))
 }
 
 /// A step: where it takes, and what it yields.
-fn step<'a>(heap: Global, words: &[&'a str]) -> Result<Line, Fault<'a>> {
+fn step<'a>(alloc: Global, words: &[&'a str]) -> Result<Line, Fault<'a>> {
     let ["from", input, "yields", rest @ ..] = words else {
         return Err(Fault::Form(STEP));
     };
     let input = number_of(*input)?;
-    let mut yields = Vec::new(heap);
+    let mut yields = Vec::new(alloc);
     for part in rest.chunks(3) {
         yields.push(yield_of(part)?)?;
     }
@@ -103,20 +98,27 @@ fn yield_of<'a>(words: &[&'a str]) -> Result<Yield, Fault<'a>> {
 }
 
 /// A tally, and behind it a target with its kind.
-fn request<'a>(heap: Global, words: &[&'a str], memory: u16) -> Result<Request, Fault<'a>> {
-    for end in 0..words.len() {
-        let (tally, target) = words.split_at(end);
-        let (kind, row) = match target {
-            ["exact", row @ ..] => (EXACT, row),
-            ["at", "least", row @ ..] => (AT_LEAST, row),
-            _ => continue,
-        };
-        return Ok(Request {
-            tally: numbers_of(heap, tally)?,
-            numbers: numbers_of(heap, row)?,
-            kind,
-            memory: memory as usize,
-        });
+fn request<'a>(alloc: Global, words: &[&'a str], memory: u16) -> Result<Request, Fault<'a>> {
+    let (tally, kind, row) = (0..words.len())
+        .find_map(|end| parts_at(words, end))
+        .ok_or(Fault::NoTarget)?;
+    Ok(Request {
+        tally: numbers_of(alloc, tally)?,
+        numbers: numbers_of(alloc, row)?,
+        kind: kind.into(),
+        memory: usize::from(memory),
+    })
+}
+
+/// The words of a tally that ends here, and behind it a target's kind and words.
+fn parts_at<'w, 'a>(
+    words: &'w [&'a str],
+    end: usize,
+) -> Option<(&'w [&'a str], Kind, &'w [&'a str])> {
+    let tally = words.get(..end)?;
+    match words.get(end..)? {
+        ["exact", row @ ..] => Some((tally, Kind::Exact, row)),
+        ["at", "least", row @ ..] => Some((tally, Kind::AtLeast, row)),
+        _ => None,
     }
-    Err(Fault::NoTarget)
 }

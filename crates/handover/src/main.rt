@@ -24,7 +24,7 @@ fn make<N: Net + Drop>(rt: &HostRuntime, day: &Day<'_>, net: N) -> anyhow::Resul
     let start = day.start()?;
     let first = first_board(start)?;
     let second = day.second.with(start)?;
-    let memory = day.sizes.order as usize;
+    let memory = usize::from(day.sizes.order);
     let ended = hand_over(rt.alloc(), net, first, second, day.calls.as_slice(), memory)?;
     Ok(show(rt, day.asked.as_slice(), &ended)?)
 }
@@ -34,10 +34,8 @@ fn run(rt: &HostRuntime) -> anyhow::Result<Outcome> {
     let day = Day::read(rt.alloc(), text.as_str())?;
     let file = day.net_bytes()?;
     let mut net = GridNet::new();
-    match net.load(file.as_slice()) {
-        Ok(()) => make(rt, &day, net),
-        Err(refusal) => Err(Unfit::Net(refusal).into()),
-    }
+    net.load(file.as_slice()).map_err(Unfit::Net)?;
+    make(rt, &day, net)
 }
 
 fn main(rt: HostRuntime) -> io::Result<ExitCode> {

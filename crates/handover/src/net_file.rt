@@ -16,11 +16,11 @@ pub(crate) struct NetFile {
 
 impl NetFile {
     /// A net of so many places, with no steps yet.
-    pub(crate) fn new(heap: Global, places: u8) -> NetFile {
+    pub(crate) fn new(alloc: Global, places: u8) -> NetFile {
         NetFile {
             places,
             steps: 0,
-            rows: Vec::new(heap),
+            rows: Vec::new(alloc),
         }
     }
 
@@ -33,11 +33,11 @@ impl NetFile {
     /// Adds a step that takes at the input place.
     pub(crate) fn add_step(
         &mut self,
-        heap: Global,
+        alloc: Global,
         input: u8,
         yields: &[Yield],
     ) -> Result<(), Fault<'static>> {
-        let row = row_of(heap, self.places, yields)?;
+        let row = row_of(alloc, self.places, yields)?;
         self.rows.push(input)?;
         self.rows.extend_from_slice(row.as_slice())?;
         self.steps = self.steps.saturating_add(1);
@@ -45,26 +45,29 @@ impl NetFile {
     }
 
     /// The bytes of the file.
-    pub(crate) fn bytes(&self, heap: Global) -> Result<Vec<u8>, AllocError>
+    pub(crate) fn bytes(&self, alloc: Global) -> Result<Vec<u8>, AllocError>
         ensures { IfOk result (λ v. v.items ≡ self.now.places ∷ self.now.steps ∷ self.now.rows.items) }
     {
-        let mut bytes = vec![in heap; self.places, self.steps]?;
+        let mut bytes = vec![in alloc; self.places, self.steps]?;
         bytes.extend_from_slice(self.rows.as_slice())?;
         Ok(bytes)
     }
 }
 
 /// The yields at each of so many places.
-fn row_of(heap: Global, places: u8, yields: &[Yield]) -> Result<Vec<u8>, Fault<'static>>
+fn row_of(alloc: Global, places: u8, yields: &[Yield]) -> Result<Vec<u8>, Fault<'static>>
     ensures { IfOk result (λ row. vec_len row ≡ places) }
 {
-    let mut row = vec![in heap; 0u8; places as usize]?;
+    let mut row = vec![in alloc; 0u8; usize::from(places)]?;
     for part in yields {
-        match row.get_mut(part.place as usize) {
-            None => return Err(Fault::Outside(part.place)),
-            Some(blocks) if *blocks > 0 => return Err(Fault::YieldTwice(part.place)),
-            Some(blocks) => *blocks = part.blocks,
+        let place = part.place;
+        let blocks = row
+            .get_mut(usize::from(place))
+            .ok_or(Fault::Outside(place))?;
+        if *blocks > 0 {
+            return Err(Fault::YieldTwice(place));
         }
+        *blocks = part.blocks;
     }
     Ok(row)
 }

@@ -13,6 +13,7 @@ use layers::allowance::Allowance;
 use layers::renaming::Renaming;
 use refusals::Refusal;
 use slot_board::SlotBoard;
+use std::array;
 
 /// What may be put down on the second board, and what its allowance has left, where no line says it.
 const PLENTY: u32 = 1_000_000;
@@ -20,7 +21,7 @@ const PLENTY: u32 = 1_000_000;
 pub(crate) type Pile = Renaming<Allowance<CountBoard>>;
 
 /// What a file says of the second board.
-#[derive(Drop)]
+#[derive(Default, Drop)]
 pub(crate) struct SecondBoard {
     pub(crate) rename: Option<Vec<u8>>,
     pub(crate) allow: Option<u32>,
@@ -32,29 +33,16 @@ pub(crate) fn first_board(start: &[u32]) -> Result<SlotBoard, Unfit>
     ensures { IfOk result (λ b. Shows start.now (counts_of b.slots)) }
 {
     let mut board = SlotBoard::new();
-    match lay_out(&mut board, start) {
-        Ok(()) => Ok(board),
-        Err(refusal) => Err(Unfit::FirstBoard(refusal)),
-    }
+    lay_out(&mut board, start).map_err(Unfit::FirstBoard)?;
+    Ok(board)
 }
 
 impl SecondBoard {
-    pub(crate) fn new() -> SecondBoard {
-        SecondBoard {
-            rename: None,
-            allow: None,
-            spare: None,
-        }
-    }
-
     /// A renaming over an allowance over a count board, with the start on it.
     pub(crate) fn with(&self, start: &[u32]) -> Result<Pile, Unfit>
         ensures { IfOk result (λ b. Shows start.now (renamed b.row (at_place b.below.below.counts))) }
     {
-        match self.pile(start) {
-            Ok(pile) => Ok(pile),
-            Err(refusal) => Err(Unfit::SecondBoard(refusal)),
-        }
+        self.pile(start).map_err(Unfit::SecondBoard)
     }
 
     /// Gives the pile the renaming of the file, or else the one that turns the places round.
@@ -70,7 +58,9 @@ impl SecondBoard {
     fn pile(&self, start: &[u32]) -> Result<Pile, Refusal>
         ensures { IfOk result (λ b. Shows start.now (renamed b.row (at_place b.below.below.counts))) }
     {
-        let blocks = total(start);
+        let blocks = start
+            .iter()
+            .fold(0u32, |sum, blocks| sum.saturating_add(*blocks));
         let spare = self.spare.unwrap_or(PLENTY).saturating_add(blocks);
         let left = self.allow.unwrap_or(PLENTY).saturating_add(blocks);
         let mut counts = CountBoard::new();
@@ -86,11 +76,7 @@ impl SecondBoard {
 fn turned_round() -> [u8; PLACES]
     ensures { (p : ℕ) → p < 64 → slice_index result p ≡ 63 - p }
 {
-    let mut row = [0u8; PLACES];
-    for place in 0..=LAST_PLACE {
-        row[place as usize] = LAST_PLACE - place;
-    }
-    row
+    array::from_fn(|place| LAST_PLACE - place as u8)
 }
 
 /// Puts the start's blocks down at their places.
@@ -98,24 +84,7 @@ fn lay_out<B: Board>(board: &mut B, start: &[u32]) -> Result<(), Refusal>
     ensures { OnOk result ((p : ℕ) → p < 64 → B.counts board.new p ≡ B.counts board.old p + at start.now p) }
 {
     for place in 0..=LAST_PLACE {
-        board.put(place, blocks_at(start, place))?;
+        board.put(place, start.get(usize::from(place)).copied().unwrap_or(0))?;
     }
     Ok(())
-}
-
-/// How many blocks the start has at a place; none past its end.
-fn blocks_at(start: &[u32], place: u8) -> u32
-    ensures { result ≡ at start.now place }
-{
-    let i = place as usize;
-    if i < start.len() { start[i] } else { 0 }
-}
-
-/// How many blocks a start has, up to what a number holds.
-fn total(start: &[u32]) -> u32 {
-    let mut sum = 0u32;
-    for blocks in start {
-        sum = sum.saturating_add(*blocks);
-    }
-    sum
 }

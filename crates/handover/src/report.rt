@@ -5,7 +5,7 @@ ghost use Rattle.theory.specs.Laws.{AgreeBelow};
 use answers::{Cause, Finding};
 use boards::board::Board;
 use handovers::hand_over::HandOver;
-use handovers::sitting_calls::Answer;
+use handovers::sitting_calls::{Answer, Done};
 use nets::net::Net;
 use std::{fmt, io};
 
@@ -41,14 +41,16 @@ impl fmt::Display for InWords {
 
 fn show_answer(rt: &HostRuntime, answer: &Answer) -> io::Result<()> {
     match answer {
-        Answer::Refused(refusal) => println!(rt; "  {refusal}"),
-        Answer::Fired => println!(rt; "  accepted"),
-        Answer::Order(order) if order.is_empty() => println!(rt; "  accepted with no step to do"),
-        Answer::Order(order) => {
+        Err(refusal) => println!(rt; "  {refusal}"),
+        Ok(Done::Fired) => println!(rt; "  accepted"),
+        Ok(Done::Order(order)) if order.is_empty() => {
+            println!(rt; "  accepted with no step to do")
+        }
+        Ok(Done::Order(order)) => {
             let row = Row(order.as_slice());
             println!(rt; "  accepted in the order{row}")
         }
-        Answer::Findings(findings) => show_findings(rt, findings.as_slice()),
+        Ok(Done::Findings(findings)) => show_findings(rt, findings.as_slice()),
     }
 }
 
@@ -109,7 +111,7 @@ fn show_hand_over<N: Net, B: Board, C: Board>(
     day: &HandOver<N, B, C>,
 ) -> io::Result<()> {
     let net = day.second.net();
-    let counters = Row(&day.done[0..net.steps() as usize]);
+    let counters = Row(&day.done[..usize::from(net.steps())]);
     println!(rt; "counters{counters}")?;
     println!(rt; "hand-over")?;
     show_answer(rt, &day.replay)?;
@@ -138,10 +140,9 @@ fn outcome_of<N: Net, B: Board, C: Board>(day: &HandOver<N, B, C>) -> Outcome
     ensures agree { result ≡ Outcome.Agree → AgreeBelow (N.meaning day.now.second.net).net.places (B.counts day.now.board) (C.counts day.now.second.board) }
     ensures differ { result ≡ Outcome.Differ → AgreeBelow (N.meaning day.now.second.net).net.places (B.counts day.now.board) (C.counts day.now.second.board) → ⊥ }
 {
-    if let Answer::Refused(_) = day.replay {
-        return Outcome::Refused;
-    }
-    if agree(day.second.net().places(), &day.board, day.second.board()) {
+    if day.replay.is_err() {
+        Outcome::Refused
+    } else if agree(day.second.net().places(), &day.board, day.second.board()) {
         Outcome::Agree
     } else {
         Outcome::Differ
@@ -152,10 +153,5 @@ fn outcome_of<N: Net, B: Board, C: Board>(day: &HandOver<N, B, C>) -> Outcome
 fn agree<B: Board, C: Board>(places: u8, first: &B, second: &C) -> bool
     ensures { MatchBool result (AgreeBelow places (B.counts first.now) (C.counts second.now)) (AgreeBelow places (B.counts first.now) (C.counts second.now) → ⊥) }
 {
-    for place in 0..places {
-        if first.count(place) != second.count(place) {
-            return false;
-        }
-    }
-    true
+    (0..places).all(|place| first.count(place) == second.count(place))
 }

@@ -10,34 +10,29 @@ pub(crate) trait Number: FromStr + Drop {
 }
 
 impl Number for u8 {
-    const MOST: u32 = 255;
+    const MOST: u32 = u8::MAX as u32;
 }
 
 impl Number for u16 {
-    const MOST: u32 = 65_535;
+    const MOST: u32 = u16::MAX as u32;
 }
 
 impl Number for u32 {
-    const MOST: u32 = 4_294_967_295;
+    const MOST: u32 = u32::MAX;
 }
 
 /// A line without its comment and the spaces around it.
 pub(crate) fn code(text: &str) -> &str {
-    match text.split_once('#') {
-        Some((before, _)) => before.trim(),
-        None => text.trim(),
-    }
+    text.split_once('#')
+        .map_or(text, |(before, _)| before)
+        .trim()
 }
 
 /// The words of a line; a comma counts as a space.
-pub(crate) fn words<'a>(heap: Global, code: &'a str) -> Result<Vec<&'a str>, AllocError> {
-    let mut words = Vec::new(heap);
-    for word in code.split([' ', '\t', ',']) {
-        if !word.is_empty() {
-            words.push(word)?;
-        }
-    }
-    Ok(words)
+pub(crate) fn words<'a>(alloc: Global, code: &'a str) -> Result<Vec<&'a str>, AllocError> {
+    code.split([' ', '\t', ','])
+        .filter(|word| !word.is_empty())
+        .collect(alloc)
 }
 
 /// A word as a number.
@@ -45,10 +40,7 @@ pub(crate) fn number_of<'a, T: Number>(word: &'a str) -> Result<T, Fault<'a>>
 where
     T::Err: Drop,
 {
-    match word.parse::<T>() {
-        Ok(number) => Ok(number),
-        Err(_) => Err(Fault::NoNumber(word, T::MOST)),
-    }
+    word.parse().map_err(|_| Fault::NoNumber(word, T::MOST))
 }
 
 /// The only word as a number; the form is that of the whole line.
@@ -67,13 +59,14 @@ where
 
 /// The words as numbers.
 pub(crate) fn numbers_of<'a, T: Number>(
-    heap: Global,
+    alloc: Global,
     words: &[&'a str],
 ) -> Result<Vec<T>, Fault<'a>>
 where
     T::Err: Drop,
 {
-    let mut all = Vec::new(heap);
+    // A `try_collect` is not covered by the borrow checker's part of a proof: the words outlive the row.
+    let mut all = Vec::new(alloc);
     for word in words {
         all.push(number_of(*word)?)?;
     }

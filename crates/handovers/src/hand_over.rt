@@ -10,14 +10,12 @@ ghost use Rattle.theory.specs.Rows.{at};
 
 use crate::perform::{perform, perform_all};
 use crate::sitting_calls::{Answer, Call, Request};
+use answers::Kind;
 use boards::board::{Board, PLACES};
 use calls::all_counts;
 use nets::net::Net;
 use sittings::sitting::{DONE_COUNTS, Sitting};
 use std::alloc::{AllocError, Global};
-
-/// The kind of an exact target.
-const EXACT: u8 = 0;
 
 /// What a hand-over leaves: what was said on both sittings, and what they hold at the end.
 #[derive(Drop)]
@@ -51,7 +49,7 @@ fn replay<N: Net + Drop, C: Board + Drop>(
     let request = Request {
         tally: done[..usize::from(net.steps())].to_vec(alloc)?,
         numbers: marking[..usize::from(net.places())].to_vec(alloc)?,
-        kind: EXACT,
+        kind: Kind::Exact.into(),
         memory,
     };
     let mut sitting = Sitting::new(net, board);

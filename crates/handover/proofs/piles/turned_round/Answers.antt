@@ -1,9 +1,6 @@
-use Rattle.std.proofs.Common.{◌<◌, ◌≢◌, length, ◌∙◌, arith, length-set, get_or-set_other, get_or-set_same, below_more}
+use Rattle.std.proofs.Common.{◌-◌, rules}
+use Rattle.theory.proofs.Filled.{filled_at}
 use Rattle.handover.proofs.piles.turned_round.Goals as goal
 
-pub loop-place-preserved : goal.loop-place-preserved
-loop-place-preserved c =
-    let lt : c.loop-place.place < length c.loop-place.row = omega arith in (
-      length-set c.loop-place.row c.loop-place.place _ ∙ c.loop-place.invariant.0,
-      below_more _ _ (λ k h. let ne : k ≢ c.loop-place.place = omega arith in rw get_or-set_other (c.loop-place.invariant.1 k h)) (rw get_or-set_same),
-    )
+pub returns : goal.returns
+returns c p h = filled_at _ _ (λ x. 63 - x) (λ x r q e. search rules) c.from_fn.ensures.items p 0 h
