@@ -1,17 +1,19 @@
 //! Why a sheet is refused, or the first order of its tally.
 ghost use Rattle.std.specs.Prelude.{◌≡◌, ◌≤◌, min, true, false, length, IfOk, MatchResult};
+ghost use Rattle.answers.specs.Kinds.{byte_of};
 ghost use Rattle.answers.specs.States.{new_on};
 ghost use Rattle.boards.specs.Rows.{at_place};
 ghost use Rattle.formats.specs.Chained.{chained_places, chained_steps};
 ghost use Rattle.layers.specs.Renamings.{renamed};
 ghost use Rattle.refusals.specs.declared.Refusal.TheVariants.{BoardRowUnfit};
 ghost use Rattle.sheets.specs.Found.{PartsOf, Resumed, Found};
-ghost use Rattle.sheets.specs.Parts.{tally_of, target_in};
+ghost use Rattle.sheets.specs.Parts.{kind_of, tally_of, target_in};
 ghost use Rattle.sheets.specs.Verdicts.{unlawful, spare_given, order_entries};
 ghost use Rattle.theory.specs.Rows.{at};
 
 use crate::parts::{Parts, load_net, parts_of};
 use crate::rows::{read_fours, read_twos};
+use answers::Kind;
 use boards::board::Board;
 use boards::count_board::CountBoard;
 use checks::Target;
@@ -28,9 +30,6 @@ pub(crate) const ORDER_ENTRIES: usize = 4096;
 
 /// The spare of the board that a sheet is judged on, and what its allowance leaves.
 const SPARE: u32 = 1_000_000;
-
-/// The kind of an at-least target; an exact one has kind 0.
-const AT_LEAST: u8 = 1;
 
 /// The board that a sheet is judged on: a renaming that changes no number over an allowance over a
 /// count board with the start counts.
@@ -49,9 +48,11 @@ fn resume_sheet<N: Net + Drop, B: Board + Drop>(
     board: B,
     sheet: &[u8],
     parts: Parts,
+    kind: Kind,
     order: &mut [u16],
 ) -> Result<usize, Refusal>
     requires parts { PartsOf sheet.now parts }
+    requires kind { byte_of kind ≡ kind_of sheet.now }
     requires places { (N.meaning net).net.places ≡ chained_places sheet.now }
     requires steps { (N.meaning net).net.steps ≡ chained_steps sheet.now }
     ensures resumed { Resumed result order.old order.new (N.meaning net).net (new_on (B.counts board) (B.spare board)) (tally_of sheet.now) (target_in sheet.now) }
@@ -63,7 +64,7 @@ fn resume_sheet<N: Net + Drop, B: Board + Drop>(
     let numbers = read_fours(sheet, parts.targets, places);
     let target = Target {
         numbers: &numbers[..usize::from(places)],
-        kind: byte_at(sheet, parts.kind),
+        kind: kind.into(),
     };
     let mut sitting = Sitting::new(net, board);
     sitting.resume(&tally[..usize::from(steps)], target, order)
@@ -78,10 +79,8 @@ pub(crate) fn find_order(sheet: &[u8], order: &mut [u16]) -> Result<usize, Refus
     let parts = parts_of(sheet);
     let mut net = ChainedNet::new();
     load_net(&mut net, sheet, parts)?;
-    if byte_at(sheet, parts.kind) > AT_LEAST {
-        return Err(Refusal::RowsUnfit);
-    }
+    let kind = Kind::try_from(byte_at(sheet, parts.kind))?;
     let starts = read_fours(sheet, parts.starts, net.places());
     let board = board_of(&starts)?;
-    resume_sheet(net, board, sheet, parts, order)
+    resume_sheet(net, board, sheet, parts, kind, order)
 }

@@ -1,4 +1,4 @@
-use Rattle.std.proofs.Common.{◌≡◌, min, true, false, not, Some, None, Ok, Err, sym, refl, ap, ◌∙◌, arith, rules}
+use Rattle.std.proofs.Common.{◌≡◌, ◌<◌, min, true, false, not, Some, None, Ok, Err, sym, refl, ap, ◌∙◌, arith, rules}
 use mathlib.Core.Path.{fun_ext}
 use Rattle.std.proofs.lemmas.Bool.{lt-ltb, le-ltb}
 use Rattle.refusals.specs.Answered.{answered}
@@ -6,6 +6,9 @@ use Rattle.refusals.specs.declared.Refusal.TheVariants.{RowsUnfit, BoardRowUnfit
 use Rattle.theory.specs.Rows.{at}
 use Rattle.formats.specs.Checks.{byte}
 use Rattle.formats.specs.Chained.{chained_places, chained_steps, chained_net}
+use Rattle.answers.specs.declared.Kind.{Kind}
+use Rattle.answers.specs.declared.Kind.TheVariants.{Exact, AtLeast}
+use Rattle.answers.specs.Kinds.{byte_of}
 use Rattle.answers.specs.States.{new_on}
 use Rattle.boards.specs.Rows.{at_place}
 use Rattle.layers.specs.Renamings.{renamed}
@@ -17,6 +20,10 @@ use Rattle.sheets.specs.Found.{Resumed}
 use Rattle.sheets.proofs.Finding.{like, head_kept, found_unfit, found_resumed}
 use Rattle.sheets.proofs.verdict.find_order.Goals as goal
 
+byte_small : (kind : Kind) → byte_of kind < 2
+byte_small Exact = omega arith
+byte_small AtLeast = omega arith
+
 pub returns-in_err-load_net : goal.returns-in_err-load_net
 returns-in_err-load_net c =
     let sheet = c.args.sheet.now in
@@ -27,15 +34,18 @@ returns-in_err-load_net c =
     found_unfit sheet memory e c.from_residual.result said
     (same_form (net_refusal sheet) (Some e) (kind_unknown sheet) (kind_unknown sheet) (unlawful (start_of sheet)) (unlawful (start_of sheet)) (refused_with (net_refusal sheet) tt e loaded) refl refl)
 
-pub returns-then-byte_at-gt-AT_LEAST : goal.returns-then-byte_at-gt-AT_LEAST
-returns-then-byte_at-gt-AT_LEAST c =
+pub returns-in_err-kind : goal.returns-in_err-kind
+returns-in_err-kind c =
     let sheet = c.args.sheet.now in
     let memory = c.args.order.now in
     let loaded : Ok tt ≡ answered (net_refusal sheet) tt = sym c.in_ok-load_net.was ∙ c.load_net.ensures.answer in
     let net : net_refusal sheet ≡ None = accepted_with (net_refusal sheet) tt tt loaded in
+    let unknown = c.in_err-kind.ensures in
     let kind : kind_unknown sheet ≡ true =
-    ap not (le-ltb (kind_of sheet) 2 (omega (arith, c.if-byte_at-gt-AT_LEAST.true, c.byte_at.ensures, ap (byte sheet) c.parts_of-parts.ensures.kind))) in
-    found_unfit sheet memory RowsUnfit (Err RowsUnfit) refl
+    ap not (le-ltb (kind_of sheet) 2 (omega (arith, unknown.0, c.byte_at.ensures, ap (byte sheet) c.parts_of-parts.ensures.kind))) in
+    let e = c.in_err-kind.field-0.0 in
+    let said : c.from_residual-in_err-kind.result ≡ Err e = search rules in
+    found_unfit sheet memory RowsUnfit c.from_residual-in_err-kind.result (said ∙ ap Err unknown.1)
     (same_form (net_refusal sheet) None (kind_unknown sheet) true (unlawful (start_of sheet)) (unlawful (start_of sheet)) net kind refl)
 
 pub returns-in_err-board : goal.returns-in_err-board
@@ -46,7 +56,7 @@ returns-in_err-board c =
     let net : net_refusal sheet ≡ None = accepted_with (net_refusal sheet) tt tt loaded in
     let file = c.load_net.ensures.after c.in_ok-load_net.was in
     let kind : kind_unknown sheet ≡ false =
-    ap not (lt-ltb (kind_of sheet) 2 (omega (arith, c.if-byte_at-gt-AT_LEAST.false, c.byte_at.ensures, ap (byte sheet) c.parts_of-parts.ensures.kind))) in
+    ap not (lt-ltb (kind_of sheet) 2 (omega (arith, c.in_ok-kind.ensures, byte_small c.in_ok-kind.kind, c.byte_at.ensures, ap (byte sheet) c.parts_of-parts.ensures.kind))) in
     let places : c.places.result ≡ chained_places sheet = c.places.ensures ∙ ap chained_places file ∙ head_kept sheet 0 (omega arith) in
     let starts : at c.read_fours-starts.result ≡ start_of sheet =
     fun_ext c.read_fours-starts.ensures.numbers
@@ -64,6 +74,7 @@ resume_sheet-requires c =
     let file = c.load_net.ensures.after c.in_ok-load_net.was in
     record {
       parts = c.parts_of-parts.ensures;
+      kind = sym c.in_ok-kind.ensures ∙ c.byte_at.ensures ∙ ap (byte sheet) c.parts_of-parts.ensures.kind;
       places = ap chained_places file ∙ head_kept sheet 0 (omega arith);
       steps = ap chained_steps file ∙ head_kept sheet 1 (omega arith);
     }
@@ -76,7 +87,7 @@ returns c =
     let net : net_refusal sheet ≡ None = accepted_with (net_refusal sheet) tt tt loaded in
     let file = c.load_net.ensures.after c.in_ok-load_net.was in
     let kind : kind_unknown sheet ≡ false =
-    ap not (lt-ltb (kind_of sheet) 2 (omega (arith, c.if-byte_at-gt-AT_LEAST.false, c.byte_at.ensures, ap (byte sheet) c.parts_of-parts.ensures.kind))) in
+    ap not (lt-ltb (kind_of sheet) 2 (omega (arith, c.in_ok-kind.ensures, byte_small c.in_ok-kind.kind, c.byte_at.ensures, ap (byte sheet) c.parts_of-parts.ensures.kind))) in
     let places : c.places.result ≡ chained_places sheet = c.places.ensures ∙ ap chained_places file ∙ head_kept sheet 0 (omega arith) in
     let starts : at c.read_fours-starts.result ≡ start_of sheet =
     fun_ext c.read_fours-starts.ensures.numbers

@@ -1,7 +1,6 @@
 use Rattle.std.proofs.Common.{◌≡◌, ℕ, length, take, ap, ◌∙◌, arith}
 use mathlib.Core.Path.{fun_ext}
 use Rattle.theory.specs.Rows.{row_of}
-use Rattle.formats.specs.Checks.{byte}
 use Rattle.formats.specs.Chained.{chained_places}
 use Rattle.answers.specs.Answers.{resume_answer, order_memory}
 use Rattle.answers.specs.States.{new_on}
@@ -29,7 +28,7 @@ returns g c =
     let numbers-row = c.read_fours-numbers.result in
     let width = c.from.result in
     let long = c.from-2.result in
-    let T = target_of (take width numbers-row) c.byte_at.result in
+    let T = target_of (take width numbers-row) c.into.result in
     let answer : c.resume.result ≡ resume_answer (g.N.Net.meaning z.net).net (held (H z.board) (R z.board) z.done) (take long tally-row) T (length memory) = c.resume.ensures.answer in
     let order : memory' ≡ order_memory (g.N.Net.meaning z.net).net (held (H z.board) (R z.board) z.done) (take long tally-row) T memory = c.resume.ensures.memory in
     let resumed : Resumed c.resume.result memory memory' (g.N.Net.meaning z.net).net (held (H z.board) (R z.board) z.done) (take long tally-row) T =
@@ -47,8 +46,8 @@ returns g c =
     ∙ filled_front numbers-row (fours sheet parts.targets) places (omega (arith, c.read_fours-numbers.ensures.long, c.places-places.ensures, N.law.few_places)) c.read_fours-numbers.ensures.numbers
     ∙ ap (λ w. row_of (fours sheet w) places) c.requires.parts.targets
     ∙ ap (row_of (fours sheet (targets_begin sheet))) (c.places-places.ensures ∙ c.requires.places) in
-    let kind : c.byte_at.result ≡ kind_of sheet = c.byte_at.ensures ∙ ap (byte sheet) c.requires.parts.kind in
-    let target : T ≡ target_in sheet = ap (λ w. target_of w c.byte_at.result) numbers ∙ ap (target_of (row_of (fours sheet (targets_begin sheet)) (chained_places sheet))) kind in
+    let kind : c.into.result ≡ kind_of sheet = c.into.ensures ∙ c.requires.kind in
+    let target : T ≡ target_in sheet = ap (λ w. target_of w c.into.result) numbers ∙ ap (target_of (row_of (fours sheet (targets_begin sheet)) (chained_places sheet))) kind in
     let said = like (Resumed c.resume.result memory memory') (g.N.Net.meaning z.net).net N.net (held (H z.board) (R z.board) z.done) (new_on (H b) (R b)) (take long tally-row) (tally_of sheet) T (target_in sheet)
     (ap (λ n. (g.N.Net.meaning n).net) c.new-sitting.ensures.net) state tally target resumed in
     record {
