@@ -6,10 +6,12 @@ ghost use Rattle.sheets.specs.Verdicts.{sheet_line, Judged};
 
 mod parts;
 mod rows;
+mod sheet;
 mod verdict;
 
 use lines::{write_order, write_refusal};
 use refusals::Refusal;
+use sheet::Sheet;
 use verdict::{ORDER_ENTRIES, find_order};
 
 /// The longest line: `ok`, 4,096 steps of three digits, each after a space, and the line's end.
@@ -22,7 +24,7 @@ pub fn judge(sheet: &[u8], text: &mut [u8]) -> Result<usize, Refusal>
     ensures verdict { Judged sheet.now (sheet_line sheet.now) }
 {
     let mut order = [0u16; ORDER_ENTRIES];
-    match find_order(sheet, &mut order) {
+    match find_order(&Sheet::new(sheet), &mut order) {
         Ok(length) => write_order(text, &order[..length]),
         Err(refusal) => write_refusal(text, refusal),
     }

@@ -6,13 +6,13 @@ ghost use Rattle.boards.specs.Rows.{at_place};
 ghost use Rattle.formats.specs.Chained.{chained_places, chained_steps};
 ghost use Rattle.layers.specs.Renamings.{renamed};
 ghost use Rattle.refusals.specs.declared.Refusal.TheVariants.{BoardRowUnfit};
-ghost use Rattle.sheets.specs.Found.{PartsOf, Resumed, Found};
+ghost use Rattle.sheets.specs.Found.{Resumed, Found};
 ghost use Rattle.sheets.specs.Parts.{kind_of, tally_of, target_in};
 ghost use Rattle.sheets.specs.Verdicts.{unlawful, spare_given, order_entries};
 ghost use Rattle.theory.specs.Rows.{at};
 
-use crate::parts::{Parts, load_net, parts_of};
 use crate::rows::{read_fours, read_twos};
+use crate::sheet::Sheet;
 use answers::Kind;
 use boards::board::Board;
 use boards::count_board::CountBoard;
@@ -46,22 +46,20 @@ fn board_of(starts: &[u32]) -> Result<Renaming<Allowance<CountBoard>>, Refusal>
 fn resume_sheet<N: Net + Drop, B: Board + Drop>(
     net: N,
     board: B,
-    sheet: &[u8],
-    parts: Parts,
+    sheet: &Sheet<'_>,
     kind: Kind,
     order: &mut [u16],
 ) -> Result<usize, Refusal>
-    requires parts { PartsOf sheet.now parts }
-    requires kind { byte_of kind ≡ kind_of sheet.now }
-    requires places { (N.meaning net).net.places ≡ chained_places sheet.now }
-    requires steps { (N.meaning net).net.steps ≡ chained_steps sheet.now }
-    ensures resumed { Resumed result order.old order.new (N.meaning net).net (new_on (B.counts board) (B.spare board)) (tally_of sheet.now) (target_in sheet.now) }
+    requires kind { byte_of kind ≡ kind_of sheet.now.bytes.now }
+    requires places { (N.meaning net).net.places ≡ chained_places sheet.now.bytes.now }
+    requires steps { (N.meaning net).net.steps ≡ chained_steps sheet.now.bytes.now }
+    ensures resumed { Resumed result order.old order.new (N.meaning net).net (new_on (B.counts board) (B.spare board)) (tally_of sheet.now.bytes.now) (target_in sheet.now.bytes.now) }
     ensures fits { IfOk result (λ n. n ≤ length order.old) }
 {
     let places = net.places();
     let steps = net.steps();
-    let tally = read_twos(sheet, parts.tallies, steps);
-    let numbers = read_fours(sheet, parts.targets, places);
+    let tally = read_twos(sheet.bytes, sheet.parts.tallies, steps);
+    let numbers = read_fours(sheet.bytes, sheet.parts.targets, places);
     let target = Target {
         numbers: &numbers[..usize::from(places)],
         kind: kind.into(),
@@ -72,15 +70,14 @@ fn resume_sheet<N: Net + Drop, B: Board + Drop>(
 
 /// Judges a sheet: writes the first order of its tally from the front of the order memory and answers
 /// its length, or says why the sheet is refused.
-pub(crate) fn find_order(sheet: &[u8], order: &mut [u16]) -> Result<usize, Refusal>
+pub(crate) fn find_order(sheet: &Sheet<'_>, order: &mut [u16]) -> Result<usize, Refusal>
     requires { length order.old ≡ order_entries }
-    ensures { Found sheet.now order.old result order.new }
+    ensures { Found sheet.now.bytes.now order.old result order.new }
 {
-    let parts = parts_of(sheet);
     let mut net = ChainedNet::new();
-    load_net(&mut net, sheet, parts)?;
-    let kind = Kind::try_from(byte_at(sheet, parts.kind))?;
-    let starts = read_fours(sheet, parts.starts, net.places());
+    sheet.load_net(&mut net)?;
+    let kind = Kind::try_from(byte_at(sheet.bytes, sheet.parts.kind))?;
+    let starts = read_fours(sheet.bytes, sheet.parts.starts, net.places());
     let board = board_of(&starts)?;
-    resume_sheet(net, board, sheet, parts, kind, order)
+    resume_sheet(net, board, sheet, kind, order)
 }

@@ -3,6 +3,7 @@ use lib.ListN.{length-replicate}
 use Rattle.std.proofs.lemmas.List.{take_at}
 use Rattle.refusals.specs.Answered.{answered}
 use Rattle.answers.specs.Answers.{unless, written}
+use Rattle.sheets.specs.Found.{Found}
 use Rattle.lines.specs.Lines.{ok_line, LineWritten}
 use Rattle.sittings.proofs.Resumed.{refused_with, accepted_with}
 use Rattle.sheets.specs.Verdicts.{sheet_refusal, sheet_order, sheet_line, line_for}
@@ -21,7 +22,7 @@ returns-in-Ok c =
     let order = sheet_order sheet in
     let memory : List ℕ = replicate 4096 0 in
     let n = c.in-Ok.length in
-    let found = c.find_order.ensures in
+    let found = subst (λ (z : List ℕ). Found z memory c.find_order.result c.find_order.new.order) c.new.ensures c.find_order.ensures in
     let none : sheet_refusal sheet ≡ None = accepted_with (sheet_refusal sheet) (length order) n (sym c.in-Ok.is ∙ found.answer) in
     let long : n ≡ length order =
     let w : Ok n ≡ answered None (length order) = sym c.in-Ok.is ∙ found.answer ∙ ap (λ z. answered z (length order)) none in cc in
@@ -35,8 +36,9 @@ pub returns-in-Err : goal.returns-in-Err
 returns-in-Err c =
     let sheet = c.args.sheet.now in
     let order = sheet_order sheet in
+    let memory : List ℕ = replicate 4096 0 in
     let e = c.in-Err.refusal in
-    let found = c.find_order.ensures in
+    let found = subst (λ (z : List ℕ). Found z memory c.find_order.result c.find_order.new.order) c.new.ensures c.find_order.ensures in
     let some : sheet_refusal sheet ≡ Some e = refused_with (sheet_refusal sheet) (length order) e (sym c.in-Err.is ∙ found.answer) in
     let L : List ℕ → Type 0 = λ z. LineWritten z c.args.text.now c.write_refusal.result c.write_refusal.new.text in
     record {

@@ -26,7 +26,7 @@ byte_small AtLeast = omega arith
 
 pub returns-in_err-load_net : goal.returns-in_err-load_net
 returns-in_err-load_net c =
-    let sheet = c.args.sheet.now in
+    let sheet = c.args.sheet.now.bytes.now in
     let memory = c.args.order.now in
     let e = c.in_err-load_net.field-0.0 in
     let said : c.from_residual.result ≡ Err e = search rules in
@@ -36,13 +36,13 @@ returns-in_err-load_net c =
 
 pub returns-in_err-kind : goal.returns-in_err-kind
 returns-in_err-kind c =
-    let sheet = c.args.sheet.now in
+    let sheet = c.args.sheet.now.bytes.now in
     let memory = c.args.order.now in
     let loaded : Ok tt ≡ answered (net_refusal sheet) tt = sym c.in_ok-load_net.was ∙ c.load_net.ensures.answer in
     let net : net_refusal sheet ≡ None = accepted_with (net_refusal sheet) tt tt loaded in
     let unknown = c.in_err-kind.ensures in
     let kind : kind_unknown sheet ≡ true =
-    ap not (le-ltb (kind_of sheet) 2 (omega (arith, unknown.0, c.byte_at.ensures, ap (byte sheet) c.parts_of-parts.ensures.kind))) in
+    ap not (le-ltb (kind_of sheet) 2 (omega (arith, unknown.0, c.byte_at.ensures, ap (byte sheet) c.args.sheet.now.found.kind))) in
     let e = c.in_err-kind.field-0.0 in
     let said : c.from_residual-in_err-kind.result ≡ Err e = search rules in
     found_unfit sheet memory RowsUnfit c.from_residual-in_err-kind.result (said ∙ ap Err unknown.1)
@@ -50,18 +50,18 @@ returns-in_err-kind c =
 
 pub returns-in_err-board : goal.returns-in_err-board
 returns-in_err-board c =
-    let sheet = c.args.sheet.now in
+    let sheet = c.args.sheet.now.bytes.now in
     let memory = c.args.order.now in
     let loaded : Ok tt ≡ answered (net_refusal sheet) tt = sym c.in_ok-load_net.was ∙ c.load_net.ensures.answer in
     let net : net_refusal sheet ≡ None = accepted_with (net_refusal sheet) tt tt loaded in
     let file = c.load_net.ensures.after c.in_ok-load_net.was in
     let kind : kind_unknown sheet ≡ false =
-    ap not (lt-ltb (kind_of sheet) 2 (omega (arith, c.in_ok-kind.ensures, byte_small c.in_ok-kind.kind, c.byte_at.ensures, ap (byte sheet) c.parts_of-parts.ensures.kind))) in
+    ap not (lt-ltb (kind_of sheet) 2 (omega (arith, c.in_ok-kind.ensures, byte_small c.in_ok-kind.kind, c.byte_at.ensures, ap (byte sheet) c.args.sheet.now.found.kind))) in
     let places : c.places.result ≡ chained_places sheet = c.places.ensures ∙ ap chained_places file ∙ head_kept sheet 0 (omega arith) in
     let starts : at c.read_fours-starts.result ≡ start_of sheet =
     fun_ext c.read_fours-starts.ensures.numbers
-    ∙ ap (λ n. below n (fours sheet c.parts_of-parts.result.starts)) places
-    ∙ ap (λ n. below (chained_places sheet) (fours sheet n)) c.parts_of-parts.ensures.starts in
+    ∙ ap (λ n. below n (fours sheet c.args.sheet.now.parts.starts)) places
+    ∙ ap (λ n. below (chained_places sheet) (fours sheet n)) c.args.sheet.now.found.starts in
     let e = c.in_err-board.field-0.0 in
     let said : c.from_residual-in_err-board.result ≡ Err e = search rules in
     let broken = c.in_err-board.ensures in
@@ -70,29 +70,28 @@ returns-in_err-board c =
 
 pub resume_sheet-requires : goal.resume_sheet-requires
 resume_sheet-requires c =
-    let sheet = c.args.sheet.now in
+    let sheet = c.args.sheet.now.bytes.now in
     let file = c.load_net.ensures.after c.in_ok-load_net.was in
     record {
-      parts = c.parts_of-parts.ensures;
-      kind = sym c.in_ok-kind.ensures ∙ c.byte_at.ensures ∙ ap (byte sheet) c.parts_of-parts.ensures.kind;
+      kind = sym c.in_ok-kind.ensures ∙ c.byte_at.ensures ∙ ap (byte sheet) c.args.sheet.now.found.kind;
       places = ap chained_places file ∙ head_kept sheet 0 (omega arith);
       steps = ap chained_steps file ∙ head_kept sheet 1 (omega arith);
     }
 
 pub returns : goal.returns
 returns c =
-    let sheet = c.args.sheet.now in
+    let sheet = c.args.sheet.now.bytes.now in
     let memory = c.args.order.now in
     let loaded : Ok tt ≡ answered (net_refusal sheet) tt = sym c.in_ok-load_net.was ∙ c.load_net.ensures.answer in
     let net : net_refusal sheet ≡ None = accepted_with (net_refusal sheet) tt tt loaded in
     let file = c.load_net.ensures.after c.in_ok-load_net.was in
     let kind : kind_unknown sheet ≡ false =
-    ap not (lt-ltb (kind_of sheet) 2 (omega (arith, c.in_ok-kind.ensures, byte_small c.in_ok-kind.kind, c.byte_at.ensures, ap (byte sheet) c.parts_of-parts.ensures.kind))) in
+    ap not (lt-ltb (kind_of sheet) 2 (omega (arith, c.in_ok-kind.ensures, byte_small c.in_ok-kind.kind, c.byte_at.ensures, ap (byte sheet) c.args.sheet.now.found.kind))) in
     let places : c.places.result ≡ chained_places sheet = c.places.ensures ∙ ap chained_places file ∙ head_kept sheet 0 (omega arith) in
     let starts : at c.read_fours-starts.result ≡ start_of sheet =
     fun_ext c.read_fours-starts.ensures.numbers
-    ∙ ap (λ n. below n (fours sheet c.parts_of-parts.result.starts)) places
-    ∙ ap (λ n. below (chained_places sheet) (fours sheet n)) c.parts_of-parts.ensures.starts in
+    ∙ ap (λ n. below n (fours sheet c.args.sheet.now.parts.starts)) places
+    ∙ ap (λ n. below (chained_places sheet) (fours sheet n)) c.args.sheet.now.found.starts in
     let pile = c.in_ok-board.board in
     let fits = c.in_ok-board.ensures in
     let counts = renamed pile.row (at_place pile.below.below.counts) in

@@ -13,8 +13,8 @@ use Rattle.sheets.proofs.verdict.resume_sheet.Goals as goal
 
 pub returns : goal.returns
 returns g c =
-    let sheet = c.args.sheet.now in
-    let parts = c.args.parts in
+    let sheet = c.args.sheet.now.bytes.now in
+    let parts = c.args.sheet.now.parts in
     let N = g.N.Net.meaning c.args.net in
     let H = g.B.Board.counts in
     let R = g.B.Board.spare in
@@ -39,12 +39,12 @@ returns g c =
     let tally : take long tally-row ≡ tally_of sheet =
     ap (λ n. take n tally-row) c.from-2.ensures
     ∙ filled_front tally-row (twos sheet parts.tallies) steps (omega (arith, c.read_twos-tally.ensures.long, c.steps-steps.ensures, N.law.few_steps)) c.read_twos-tally.ensures.numbers
-    ∙ ap (λ w. row_of (twos sheet w) steps) c.requires.parts.tallies
+    ∙ ap (λ w. row_of (twos sheet w) steps) c.args.sheet.now.found.tallies
     ∙ ap (row_of (twos sheet (tallies_begin sheet))) (c.steps-steps.ensures ∙ c.requires.steps) in
     let numbers : take width numbers-row ≡ row_of (fours sheet (targets_begin sheet)) (chained_places sheet) =
     ap (λ n. take n numbers-row) c.from.ensures
     ∙ filled_front numbers-row (fours sheet parts.targets) places (omega (arith, c.read_fours-numbers.ensures.long, c.places-places.ensures, N.law.few_places)) c.read_fours-numbers.ensures.numbers
-    ∙ ap (λ w. row_of (fours sheet w) places) c.requires.parts.targets
+    ∙ ap (λ w. row_of (fours sheet w) places) c.args.sheet.now.found.targets
     ∙ ap (row_of (fours sheet (targets_begin sheet))) (c.places-places.ensures ∙ c.requires.places) in
     let kind : c.into.result ≡ kind_of sheet = c.into.ensures ∙ c.requires.kind in
     let target : T ≡ target_in sheet = ap (λ w. target_of w c.into.result) numbers ∙ ap (target_of (row_of (fours sheet (targets_begin sheet)) (chained_places sheet))) kind in
