@@ -9,6 +9,7 @@ pub(crate) trait Number: FromStr + Drop {
     const MOST: u32;
 }
 
+// A constant's value calls no `from`, so the smaller ones are cast.
 impl Number for u8 {
     const MOST: u32 = u8::MAX as u32;
 }
