@@ -10,3 +10,4 @@ pub mod Promised
 pub mod Pinning
 pub mod Unless
 pub mod OneMore
+pub mod Answered

@@ -18,7 +18,7 @@ fn put_yields<N: Net, B: Board>(net: &N, board: &mut B, step: u16)
     for place in 0..net.places() {
         let blocks = net.yield_at(step, place);
         if blocks > 0 {
-            let _ = board.put(place, blocks as u32);
+            let _ = board.put(place, u32::from(blocks));
         }
     }
 }

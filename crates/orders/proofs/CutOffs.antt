@@ -1,6 +1,7 @@
 -- What stands in the way of a tally, from the least place of each cause.
 use Rattle.std.proofs.Common.{◌≡◌, ℕ, ◌<◌, Bool, true, false, ◌&&◌, ltb, Some, None, Option, sym, ap, ◌∙◌, ⊎_elim, arith, MatchOption}
 use Rattle.std.specs.Option.{option_or, option_map}
+use Rattle.refusals.specs.Answered.{answered}
 use Rattle.refusals.specs.declared.Refusal.{Refusal}
 use Rattle.refusals.specs.declared.Refusal.TheVariants.{Short, CutOff, Missed}
 use Rattle.std.proofs.lemmas.Bool.{and_parts, and_cases, both_ways, lt-ltb, ltb-true}
@@ -28,6 +29,7 @@ first_is_least b n w same (Some p) first =
 abbrev pub first_cause : Option ℕ → Option ℕ → Option ℕ → Option Refusal
 first_cause short cut_off missed = option_or (option_map Short short) (option_or (option_map CutOff cut_off) (option_map Missed missed))
 
-pub same_cause : (a b c a' b' c' : Option ℕ) → a ≡ a' → b ≡ b' → c ≡ c' → first_cause a b c ≡ first_cause a' b' c'
-same_cause a b c a' b' c' e f g =
-    ap (λ z. first_cause z b c) e ∙ ap (λ z. first_cause a' z c) f ∙ ap (first_cause a' b') g
+-- the answer that the least places of the three causes make
+pub same_answer : (a b c a' b' c' : Option ℕ) → a ≡ a' → b ≡ b' → c ≡ c' → answered {A = Unit {0}} (first_cause a b c) tt ≡ answered {A = Unit {0}} (first_cause a' b' c') tt
+same_answer a b c a' b' c' e f g =
+    ap (λ z. answered {A = Unit {0}} (first_cause z b c) tt) e ∙ ap (λ z. answered {A = Unit {0}} (first_cause a' z c) tt) f ∙ ap (λ z. answered {A = Unit {0}} (first_cause a' b' z) tt) g

@@ -1,5 +1,5 @@
 -- What firing a tally leaves, refused and accepted.
-use Rattle.std.proofs.Common.{◌≡◌, ℕ, List, length, Some, None, Ok, Err, sym, ap, ◌∙◌}
+use Rattle.std.proofs.Common.{◌≡◌, ℕ, List, length, Some, None, Ok, Err, Result, sym, ap, ◌∙◌}
 use Rattle.refusals.specs.Answered.{answered}
 use Rattle.refusals.specs.declared.Refusal.{Refusal}
 use Rattle.theory.specs.Nets.{NetMeaning}
@@ -10,12 +10,12 @@ use Rattle.answers.proofs.Unless.{unless_refused, unless_accepted}
 use Rattle.orders.specs.Fired.{Fired}
 
 module _ (N : NetMeaning) (s : State) (tally : List ℕ) (target : Target) (memory : List ℕ) where
-  pub refused_tally : (e : Refusal) → resume_refusal N s tally target (length memory) ≡ Some e →
-      Fired N s tally target memory (Err e) s.counts s.spare memory
-  refused_tally e h =
+  pub refused_tally : (e : Refusal) (r : Result ℕ Refusal) → r ≡ Err e → resume_refusal N s tally target (length memory) ≡ Some e →
+      Fired N s tally target memory r s.counts s.spare memory
+  refused_tally e r said h =
       let o = resume_refusal N s tally target (length memory) in
       record {
-        answer = ap (λ z. answered z (length (the_order N s tally))) (sym h);
+        answer = said ∙ ap (λ z. answered z (length (the_order N s tally))) (sym h);
         counts = unless_refused o e s.counts (after_resume N s tally).counts h;
         spare = unless_refused o e s.spare (after_resume N s tally).spare h;
         written = unless_refused o e memory (written (the_order N s tally) memory) h;

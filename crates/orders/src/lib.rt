@@ -11,8 +11,8 @@ mod first_order;
 
 use boards::board::Board;
 use calls::all_counts;
-use causes::cause_refusal;
-use checks::{Target, size_refusal};
+use causes::check_causes;
+use checks::{Target, check_sizes};
 use first_order::fire_first_order;
 use nets::net::Net;
 use refusals::Refusal;
@@ -22,28 +22,26 @@ use totals::finals::Asked;
 /// Fires the first order of the tally on the board and writes it from the front of the memory, where
 /// the sizes fit and some order of the tally meets the target; answers the order's length. `done`
 /// has the steps done before, which count against their limit.
-pub fn fire_tally<'a, N: Net, B: Board>(
-    net: &'a N,
+pub fn fire_tally<N: Net, B: Board>(
+    net: &N,
     board: &mut B,
     done: &[u16],
-    tally: &'a [u16],
+    tally: &[u16],
     target: Target<'_>,
     memory: &mut [u16],
 ) -> Result<usize, Refusal>
     ensures { Fired (N.meaning net.now).net (held (B.counts board.old) (B.spare board.old) done.now) tally.now (target_of target.entry.numbers.now target.entry.kind) memory.old result (B.counts board.new) (B.spare board.new) memory.new }
 {
-    if let Some(refusal) = size_refusal(net, board.spare(), done, tally, target, memory.len()) {
-        return Err(refusal);
-    }
+    let kind = check_sizes(net, board.spare(), done, tally, target, memory.len())?;
     let counts = all_counts(board);
     let schedule = Schedule::new(net, &counts, tally);
     let asked = Asked {
         net,
         counts: &counts,
         tally,
+        target: target.numbers,
+        kind,
     };
-    if let Some(refusal) = cause_refusal(&asked, &schedule, target) {
-        return Err(refusal);
-    }
+    check_causes(&asked, &schedule)?;
     Ok(fire_first_order(net, board, schedule, tally, memory))
 }

@@ -11,7 +11,7 @@ use Rattle.answers.specs.Answers.{unless, written, resume_refusal, the_order, re
 use Rattle.answers.proofs.Unless.{unless_refused}
 use Rattle.answers.proofs.Options.{or_first}
 use Rattle.answers.proofs.Resumes.{long_now, fits_now}
-use Rattle.sittings.proofs.Resumed.{accepted_with}
+use Rattle.answers.proofs.Answered.{accepted_with}
 use Rattle.sheets.specs.Parts.{net_file, net_of, tally_of, target_in}
 use Rattle.sheets.specs.Verdicts.{form_refusal, sitting_of, sheet_refusal, sheet_order, order_entries}
 use Rattle.sheets.specs.Found.{Resumed, Found}

@@ -1,6 +1,5 @@
 -- A tally fired on a board, as a resume of a sitting.
 use Rattle.std.proofs.Common.{◌≡◌, ℕ, List, length, Some, None, Ok, Err, Option, refl, arith}
-use Rattle.refusals.specs.Answered.{answered}
 use Rattle.refusals.specs.declared.Refusal.{Refusal}
 use Rattle.theory.specs.Nets.{NetMeaning}
 use Rattle.theory.specs.Firing.{Marking}
@@ -8,16 +7,8 @@ use Rattle.theory.specs.Tallies.{Tally}
 use Rattle.answers.specs.States.{State, Target}
 use Rattle.answers.specs.Answers.{unless, resume_refusal, after_resume}
 use Rattle.orders.specs.Fired.{Fired}
+use Rattle.answers.proofs.Answered.{refused_with, accepted_with}
 use Rattle.sittings.proofs.States.{state_path}
-
--- what was answered tells whether it was refused
-pub refused_with : {A : Type 0} (o : Option Refusal) (a : A) (e : Refusal) → Err e ≡ answered o a → o ≡ Some e
-refused_with None a e h = absurd (let z : ◌≡◌ {A = ℕ} 0 1 = cc in omega arith)
-refused_with (Some d) a e h = cc
-
-pub accepted_with : {A : Type 0} (o : Option Refusal) (a b : A) → Ok b ≡ answered o a → o ≡ None
-accepted_with None a b h = refl
-accepted_with (Some d) a b h = absurd (let z : ◌≡◌ {A = ℕ} 0 1 = cc in omega arith)
 
 -- counts and spare that a call leaves, with the done row that it leaves
 left_refused : (o : Option Refusal) (e : Refusal) (s next : State) (counts : Marking) (spare : ℕ) → o ≡ Some e →

@@ -25,14 +25,14 @@ loop-place-preserved g c =
     put_more (H b₀) (R b₀) Y p (H b) (R b) (H b') (R b') c.loop-place.invariant
     (λ q. elim c.if-blocks-gt0.branch [
       | then-blocks-gt0 w ↦
-          let d = put_accepted p c.yield_at-blocks.result (H b) (R b) w.put.result (H w.put.new.self) (R w.put.new.self) low fits w.put.ensures.answer in
-          ap (λ x. H x q) w.board-is ∙ d.raised q ∙ ap (λ n. H b q + at p q n) y
+          let d = put_accepted p w.from.result (H b) (R b) w.put.result (H w.put.new.self) (R w.put.new.self) low (omega (arith, fits, w.from.ensures)) w.put.ensures.answer in
+          ap (λ x. H x q) w.board-is ∙ d.raised q ∙ ap (λ n. H b q + at p q n) (w.from.ensures ∙ y)
       | else-blocks-gt0 w ↦ ap (λ x. H x q) w.board-is ∙ omega (arith, at_zero p q (Y p) (omega (arith, w.if-blocks-gt0.false, y)))
     ])
     (elim c.if-blocks-gt0.branch [
       | then-blocks-gt0 w ↦
-          let d = put_accepted p c.yield_at-blocks.result (H b) (R b) w.put.result (H w.put.new.self) (R w.put.new.self) low fits w.put.ensures.answer in
-          omega (arith, ap R w.board-is, d.lowered, y)
+          let d = put_accepted p w.from.result (H b) (R b) w.put.result (H w.put.new.self) (R w.put.new.self) low (omega (arith, fits, w.from.ensures)) w.put.ensures.answer in
+          omega (arith, ap R w.board-is, d.lowered, w.from.ensures, y)
       | else-blocks-gt0 w ↦ omega (arith, ap R w.board-is, w.if-blocks-gt0.false, y)
     ])
 

@@ -2,15 +2,9 @@ use Rattle.std.proofs.Common.{◌≡◌, ◌+◌, ◌<◌, [], ◌∷◌, ◌++�
 use Rattle.std.proofs.lemmas.List.{append-nil}
 use Rattle.lists.specs.Lists.{found_below}
 use Rattle.lists.proofs.Written.{written_more}
-use Rattle.lists.proofs.Founds.{found_few, front_more, written_front, written_at, extended}
+use Rattle.lists.proofs.Founds.{found_few, front_more, written_at, extended}
 use Rattle.lists.proofs.add_found.Goals as goal
 use Rattle.lists.proofs.add_found.Goals.{in-Some, in_default}
-
-pub loop-number-init : goal.loop-number-init
-loop-number-init g c =
-    let list = c.args.list.now in
-    let front = take list.len list.memory.now in
-    (refl, λ at h. written_at list.memory.now front (front ++ []) list list refl (sym (append-nil front)) (written_front list.memory.now list.len list.within))
 
 pub loop-number-preserved : goal.loop-number-preserved
 loop-number-preserved g c =

@@ -1,4 +1,4 @@
-use Rattle.std.proofs.Common.{sym, ◌<◌, arith}
+use Rattle.std.proofs.Common.{sym, arith}
 use Rattle.theory.proofs.Decided.{least_found, none_found}
 use Rattle.searches.proofs.least_below.Goals as goal
 

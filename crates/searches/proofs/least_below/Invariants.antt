@@ -1,4 +1,4 @@
-use Rattle.std.proofs.Common.{◌≡◌, ℕ, ◌<◌, false}
+use Rattle.std.proofs.Common.{ℕ, ◌<◌, false}
 use Rattle.searches.proofs.least_below.Given as goal
 
 -- no number so far passes

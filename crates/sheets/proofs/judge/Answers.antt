@@ -5,7 +5,7 @@ use Rattle.refusals.specs.Answered.{answered}
 use Rattle.answers.specs.Answers.{unless, written}
 use Rattle.sheets.specs.Found.{Found}
 use Rattle.lines.specs.Lines.{ok_line, LineWritten}
-use Rattle.sittings.proofs.Resumed.{refused_with, accepted_with}
+use Rattle.answers.proofs.Answered.{refused_with, accepted_with}
 use Rattle.sheets.specs.Verdicts.{sheet_refusal, sheet_order, sheet_line, line_for}
 use Rattle.sheets.proofs.Judging.{judged}
 use Rattle.sheets.proofs.judge.Goals as goal

@@ -1,6 +1,6 @@
 use Rattle.std.proofs.Common.{◌≡◌, ◌+◌, ◌-◌, sym, ap, ◌∙◌, arith}
 use Rattle.formats.specs.Chained.{chained_arcs, arc_next, chain_yield}
-use Rattle.formats.proofs.Chains.{chain_end, chain_here, chain_next}
+use Rattle.formats.proofs.Chains.{chain_here, chain_next}
 use Rattle.nets.proofs.chained.chain_yield.Goals as goal
 
 pub loop-seen-preserved : goal.loop-seen-preserved
@@ -14,19 +14,8 @@ loop-seen-preserved c =
     ∙ ap (λ z. chain_yield file z (arc_next file c.loop-seen.arc) c.args.place) less
     ∙ ap (λ z. chain_yield file (A - (seen + 1)) z c.args.place) (sym (c.from-arc-in-loop-seen.ensures ∙ c.next_of.ensures))
 
-pub returns-then-arc-eq0 : goal.returns-then-arc-eq0
-returns-then-arc-eq0 c =
-    let file = c.args.file.now in
-    sym (c.loop-seen.invariant ∙ chain_end file (chained_arcs file - c.loop-seen._seen) c.loop-seen.arc c.args.place c.if-arc-eq0.true)
-
 pub returns-then-place_of-place : goal.returns-then-place_of-place
 returns-then-place_of-place c =
     let file = c.args.file.now in
     let here = chain_here file (chained_arcs file - c.loop-seen._seen) c.loop-seen.arc c.args.place (omega (arith, c.loop-seen-test.true, c.arcs-seen-end.ensures)) (omega (arith, c.if-arc-eq0.false)) (sym c.place_of.ensures ∙ c.if-place_of-place.true) in
     c.weight_of.ensures ∙ sym (c.loop-seen.invariant ∙ here)
-
-pub returns : goal.returns
-returns c =
-    let file = c.args.file.now in
-    let none : chained_arcs file - c.loop-seen._seen ≡ 0 = omega (arith, c.loop-seen-test.false, c.arcs-seen-end.ensures) in
-    sym (c.loop-seen.invariant ∙ ap (λ z. chain_yield file z c.loop-seen.arc c.args.place) none)

@@ -12,7 +12,7 @@ use Rattle.answers.specs.Kinds.{byte_of}
 use Rattle.answers.specs.States.{new_on}
 use Rattle.boards.specs.Rows.{at_place}
 use Rattle.layers.specs.Renamings.{renamed}
-use Rattle.sittings.proofs.Resumed.{refused_with, accepted_with}
+use Rattle.answers.proofs.Answered.{refused_with, accepted_with}
 use Rattle.sheets.specs.Parts.{below, fours, net_of, start_of, kind_of, tally_of, target_in}
 use Rattle.sheets.specs.Verdicts.{net_refusal, kind_unknown, unlawful, sitting_of}
 use Rattle.sheets.proofs.Forms.{same_form}

@@ -2,7 +2,7 @@ use Rattle.std.proofs.Common.{◌≡◌, ℕ, cond, take, is_ok, Some, None, Ok,
 use Rattle.refusals.specs.Answered.{answered}
 use Rattle.formats.specs.Chained.{head_refusal, chained_refusal}
 use Rattle.answers.proofs.Options.{or_first}
-use Rattle.sittings.proofs.Resumed.{refused_with, accepted_with}
+use Rattle.answers.proofs.Answered.{refused_with, accepted_with}
 use Rattle.sheets.specs.Parts.{net_file, sheet_end}
 use Rattle.sheets.specs.Verdicts.{net_refusal}
 use Rattle.sheets.proofs.Finding.{first_none}

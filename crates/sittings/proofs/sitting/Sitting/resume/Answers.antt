@@ -6,7 +6,8 @@ use Rattle.answers.proofs.Resumes.{fits_now}
 use Rattle.checks.specs.Held.{held, target_of}
 use Rattle.orders.specs.Fired.{Fired}
 use Rattle.sittings.proofs.DoneRows.{counts_fit, added_total}
-use Rattle.sittings.proofs.Resumed.{accepted_with, refused_resume}
+use Rattle.answers.proofs.Answered.{accepted_with}
+use Rattle.sittings.proofs.Resumed.{refused_resume}
 use Rattle.sittings.proofs.sitting.Sitting.resume.Goals as goal
 
 pub returns-in_err-length : goal.returns-in_err-length

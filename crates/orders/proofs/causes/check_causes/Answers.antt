@@ -1,10 +1,10 @@
 use Rattle.std.proofs.Common.{Some, None, sym, refl, ◌∙◌}
 use Rattle.theory.specs.Rows.{at}
 use Rattle.theory.specs.Tests.{least, is_short, is_cut_off}
-use Rattle.checks.specs.Held.{target_of}
 use Rattle.answers.specs.Answers.{is_missed}
-use Rattle.orders.proofs.CutOffs.{first_is_least, same_cause}
-use Rattle.orders.proofs.causes.cause_refusal.Goals as goal
+use Rattle.answers.specs.Kinds.{target_with}
+use Rattle.orders.proofs.CutOffs.{first_is_least, same_answer}
+use Rattle.orders.proofs.causes.check_causes.Goals as goal
 
 pub returns-in-Some-first : goal.returns-in-Some-first
 returns-in-Some-first g c =
@@ -13,10 +13,10 @@ returns-in-Some-first g c =
     let m = at a.counts.now in
     let x = at a.tally.now in
     let P = N.net.places in
-    let T = target_of c.args.target.numbers.now c.args.target.kind in
+    let T = target_with a.target.now a.kind in
     let cut = first_is_least (is_cut_off N.net m x) P c.cut_off.result (c.cut_off.ensures N.net m x N.law c.requires) c.first.result c.first.ensures.cases in
-    same_cause None (Some c.in-Some-first.place) (least (is_missed N.net m x T) P) (least (is_short N.net m x) P) (least (is_cut_off N.net m x) P) (least (is_missed N.net m x T) P)
-    (sym c.in_default.is ∙ c.least_short.ensures) (sym c.in-Some-first.is ∙ cut) refl
+    same_answer None (Some c.in-Some-first.place) (least (is_missed N.net m x T) P) (least (is_short N.net m x) P) (least (is_cut_off N.net m x) P) (least (is_missed N.net m x T) P)
+    (sym c.in_default.is ∙ c.least_short.ensures) (sym c.in-Some-first.is ∙ cut) (refl)
 
 pub returns-in-Some-least_missed : goal.returns-in-Some-least_missed
 returns-in-Some-least_missed g c =
@@ -25,19 +25,19 @@ returns-in-Some-least_missed g c =
     let m = at a.counts.now in
     let x = at a.tally.now in
     let P = N.net.places in
-    let T = target_of c.args.target.numbers.now c.args.target.kind in
+    let T = target_with a.target.now a.kind in
     let cut = first_is_least (is_cut_off N.net m x) P c.cut_off.result (c.cut_off.ensures N.net m x N.law c.requires) c.first.result c.first.ensures.cases in
-    same_cause None None (Some c.in-Some-least_missed.place) (least (is_short N.net m x) P) (least (is_cut_off N.net m x) P) (least (is_missed N.net m x T) P)
+    same_answer None None (Some c.in-Some-least_missed.place) (least (is_short N.net m x) P) (least (is_cut_off N.net m x) P) (least (is_missed N.net m x T) P)
     (sym c.in_default.is ∙ c.least_short.ensures) (sym c.in_default-first.is ∙ cut) (sym c.in-Some-least_missed.is ∙ c.least_missed.ensures)
 
-pub returns-in-None : goal.returns-in-None
-returns-in-None g c =
+pub returns : goal.returns
+returns g c =
     let a = c.args.asked.now in
     let N = g.N.Net.meaning a.net.now in
     let m = at a.counts.now in
     let x = at a.tally.now in
     let P = N.net.places in
-    let T = target_of c.args.target.numbers.now c.args.target.kind in
+    let T = target_with a.target.now a.kind in
     let cut = first_is_least (is_cut_off N.net m x) P c.cut_off.result (c.cut_off.ensures N.net m x N.law c.requires) c.first.result c.first.ensures.cases in
-    same_cause None None None (least (is_short N.net m x) P) (least (is_cut_off N.net m x) P) (least (is_missed N.net m x T) P)
-    (sym c.in_default.is ∙ c.least_short.ensures) (sym c.in_default-first.is ∙ cut) (sym c.in-None.is ∙ c.least_missed.ensures)
+    same_answer None None None (least (is_short N.net m x) P) (least (is_cut_off N.net m x) P) (least (is_missed N.net m x T) P)
+    (sym c.in_default.is ∙ c.least_short.ensures) (sym c.in_default-first.is ∙ cut) (sym c.in_default-least_missed.is ∙ c.least_missed.ensures)
