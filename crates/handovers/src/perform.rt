@@ -1,5 +1,6 @@
 //! Making calls on a sitting.
-ghost use Rattle.handovers.specs.Performed.{call_of, said_of, held_by, Performed, AllMade, SomeMade};
+ghost use Rattle.handovers.specs.Performed.{call_of, said_of, Performed, AllMade, SomeMade};
+ghost use Rattle.sittings.specs.Held.{held_by};
 ghost use Rattle.std.specs.Prelude.{◌≡◌, map, MatchResult};
 
 use crate::sitting_calls::{Answer, Call, Done, Request};

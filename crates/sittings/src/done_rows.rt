@@ -2,13 +2,14 @@
 ghost use Rattle.std.specs.Prelude.{◌≡◌, ℕ, ◌+◌, ◌≤◌, length};
 ghost use Rattle.theory.specs.Rows.{at};
 
-/// Adds each number of the tally to the done row.
-pub(crate) fn add_tally(done: &mut [u16], tally: &[u16])
-    requires inside { length tally.now ≤ length done.old }
-    requires fits { (t : ℕ) → at done.old t + at tally.now t ≤ 65535 }
-    ensures { (t : ℕ) → at done.new t ≡ at done.old t + at tally.now t }
+use crate::sitting::DONE_COUNTS;
+use std::array;
+
+/// The done row with each number of the tally added.
+pub(crate) fn with_tally(done: &[u16; DONE_COUNTS], tally: &[u16]) -> [u16; DONE_COUNTS]
+    requires inside { length tally.now ≤ 128 }
+    requires fits { (t : ℕ) → at done.now t + at tally.now t ≤ 65535 }
+    ensures { (t : ℕ) → at result t ≡ at done.now t + at tally.now t }
 {
-    for t in 0..tally.len() {
-        done[t] += tally[t];
-    }
+    array::from_fn(|t| done[t] + tally.get(t).copied().unwrap_or(0))
 }

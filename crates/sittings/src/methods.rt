@@ -1,10 +1,11 @@
 //! The calls of a sitting: fire, resume and survey.
 ghost use Rattle.answers.specs.Answers.{fire_refusal, fire_answer, after_fire, resume_refusal, resume_answer, after_resume, order_memory, unless};
 ghost use Rattle.answers.specs.Findings.{survey_answer, findings_memory};
-ghost use Rattle.checks.specs.Held.{held, target_of};
+ghost use Rattle.checks.specs.Held.{target_of};
+ghost use Rattle.sittings.specs.Held.{held_by};
 ghost use Rattle.std.specs.Prelude.{◌≡◌, length};
 
-use crate::done_rows::add_tally;
+use crate::done_rows::with_tally;
 use crate::sitting::Sitting;
 use answers::Finding;
 use boards::board::Board;
@@ -21,8 +22,10 @@ impl<N: Net, B: Board> Sitting<N, B> {
     /// Does one step: fires it on the board and counts it in the done row.
     pub fn fire(&mut self, step: u16) -> Result<(), Refusal>
         ensures net { self.new.net ≡ self.old.net }
-        ensures answer { result ≡ fire_answer (N.meaning self.old.net).net (held (B.counts self.old.board) (B.spare self.old.board) self.old.done) step }
-        ensures after { held (B.counts self.new.board) (B.spare self.new.board) self.new.done ≡ unless (fire_refusal (N.meaning self.old.net).net (held (B.counts self.old.board) (B.spare self.old.board) self.old.done) step) (held (B.counts self.old.board) (B.spare self.old.board) self.old.done) (after_fire (N.meaning self.old.net).net (held (B.counts self.old.board) (B.spare self.old.board) self.old.done) step) }
+        ensures answer { result ≡ fire_answer (N.meaning self.old.net).net (held_by B.Board self.old) step }
+        ensures after { let net = (N.meaning self.old.net).net in
+            let before = held_by B.Board self.old in
+            held_by B.Board self.new ≡ unless (fire_refusal net before step) before (after_fire net before step) }
     {
         let Some(input) = self.net.input(step) else {
             return Err(Refusal::NoSuchStep);
@@ -37,7 +40,7 @@ impl<N: Net, B: Board> Sitting<N, B> {
             return Err(Refusal::SpareShort);
         }
         let _ = move_blocks(&self.net, &mut self.board, step);
-        self.done[step as usize] += 1;
+        self.done[usize::from(step)] += 1;
         Ok(())
     }
 
@@ -50,13 +53,16 @@ impl<N: Net, B: Board> Sitting<N, B> {
         order: &mut [u16],
     ) -> Result<usize, Refusal>
         ensures net { self.new.net ≡ self.old.net }
-        ensures answer { result ≡ resume_answer (N.meaning self.old.net).net (held (B.counts self.old.board) (B.spare self.old.board) self.old.done) tally.now (target_of target.entry.numbers.now target.entry.kind) (length order.old) }
-        ensures after { held (B.counts self.new.board) (B.spare self.new.board) self.new.done ≡ unless (resume_refusal (N.meaning self.old.net).net (held (B.counts self.old.board) (B.spare self.old.board) self.old.done) tally.now (target_of target.entry.numbers.now target.entry.kind) (length order.old)) (held (B.counts self.old.board) (B.spare self.old.board) self.old.done) (after_resume (N.meaning self.old.net).net (held (B.counts self.old.board) (B.spare self.old.board) self.old.done) tally.now) }
-        ensures memory { order.new ≡ order_memory (N.meaning self.old.net).net (held (B.counts self.old.board) (B.spare self.old.board) self.old.done) tally.now (target_of target.entry.numbers.now target.entry.kind) order.old }
+        ensures answer { result ≡ resume_answer (N.meaning self.old.net).net (held_by B.Board self.old) tally.now (target_of target.entry.numbers.now target.entry.kind) (length order.old) }
+        ensures after { let net = (N.meaning self.old.net).net in
+            let before = held_by B.Board self.old in
+            let target = target_of target.entry.numbers.now target.entry.kind in
+            held_by B.Board self.new ≡ unless (resume_refusal net before tally.now target (length order.old)) before (after_resume net before tally.now) }
+        ensures memory { order.new ≡ order_memory (N.meaning self.old.net).net (held_by B.Board self.old) tally.now (target_of target.entry.numbers.now target.entry.kind) order.old }
     {
         let table = NetTable::read(&self.net);
         let length = fire_tally(&table, &mut self.board, &self.done, tally, target, order)?;
-        add_tally(&mut self.done, tally);
+        self.done = with_tally(&self.done, tally);
         Ok(length)
     }
 
@@ -68,8 +74,8 @@ impl<N: Net, B: Board> Sitting<N, B> {
         target: Target<'_>,
         findings: &mut [Finding],
     ) -> Result<usize, Refusal>
-        ensures answer { result ≡ survey_answer (N.meaning self.now.net).net (held (B.counts self.now.board) (B.spare self.now.board) self.now.done) tally.now (target_of target.entry.numbers.now target.entry.kind) (length findings.old) }
-        ensures memory { findings.new ≡ findings_memory (N.meaning self.now.net).net (held (B.counts self.now.board) (B.spare self.now.board) self.now.done) tally.now (target_of target.entry.numbers.now target.entry.kind) findings.old }
+        ensures answer { result ≡ survey_answer (N.meaning self.now.net).net (held_by B.Board self.now) tally.now (target_of target.entry.numbers.now target.entry.kind) (length findings.old) }
+        ensures memory { findings.new ≡ findings_memory (N.meaning self.now.net).net (held_by B.Board self.now) tally.now (target_of target.entry.numbers.now target.entry.kind) findings.old }
     {
         let table = NetTable::read(&self.net);
         list_findings(&table, &self.board, &self.done, tally, target, findings)

@@ -4,10 +4,10 @@ ghost use Rattle.theory.specs.Rows.{at};
 ghost use Rattle.theory.specs.Sums.{sum_to};
 
 use boards::board::Board;
-use nets::net::Net;
+use nets::net::{MOST_STEPS, Net};
 
 /// How many counts the done row has, one for each step that a net may have.
-pub const DONE_COUNTS: usize = 128;
+pub const DONE_COUNTS: usize = MOST_STEPS;
 
 /// A net, a board, and how often each step of the net was done on it.
 #[derive(Drop)]

@@ -1,7 +1,7 @@
 //! Surveys: everything that stands in the way of a tally, listed by cause and place.
 #![tactic(auto)]
 
-ghost use Rattle.std.specs.Prelude.{◌≡◌, ℕ, length};
+ghost use Rattle.std.specs.Prelude.{◌≡◌, length};
 ghost use Rattle.answers.specs.Findings.{survey_answer, findings_memory};
 ghost use Rattle.checks.specs.Held.{held, target_of};
 
@@ -10,8 +10,8 @@ mod causes;
 use answers::Finding;
 use boards::board::Board;
 use calls::all_counts;
-use causes::{CutOffPlaces, MissedPlaces, ShortPlaces};
-use checks::{Target, survey_refusal};
+use causes::{cut_off_at, missed_at, short_at};
+use checks::{Target, check_survey};
 use lists::{BoundedList, add_found};
 use nets::net::Net;
 use refusals::Refusal;
@@ -26,30 +26,34 @@ pub fn list_findings<'a, N: Net, B: Board>(
     board: &B,
     done: &[u16],
     tally: &'a [u16],
-    target: Target<'_>,
+    target: Target<'a>,
     memory: &mut [Finding],
 ) -> Result<usize, Refusal>
     ensures answer { result ≡ survey_answer (N.meaning net.now).net (held (B.counts board.now) (B.spare board.now) done.now) tally.now (target_of target.entry.numbers.now target.entry.kind) (length memory.old) }
     ensures memory { memory.new ≡ findings_memory (N.meaning net.now).net (held (B.counts board.now) (B.spare board.now) done.now) tally.now (target_of target.entry.numbers.now target.entry.kind) memory.old }
 {
-    if let Some(refusal) = survey_refusal(net, done, tally, target, memory.len()) {
-        return Err(refusal);
-    }
+    let kind = check_survey(net, done, tally, target, memory.len())?;
     let counts = all_counts(board);
     let asked = Asked {
         net,
         counts: &counts,
         tally,
+        target: target.numbers,
+        kind,
     };
-    let places = net.places() as u16;
+    let places = u16::from(net.places());
     let cut_off = Schedule::new(net, &counts, tally).cut_off();
     let mut findings = BoundedList::new(memory);
-    let _ = add_found(&mut findings, &ShortPlaces(&asked), places);
-    let _ = add_found(&mut findings, &CutOffPlaces(cut_off), places);
-    let missed = MissedPlaces {
-        asked: &asked,
-        target,
-    };
-    let _ = add_found(&mut findings, &missed, places);
+    let _ = add_found(&mut findings, places, |place| short_at(&asked, place as u8));
+    let _ = add_found(
+        &mut findings,
+        places,
+        |place| cut_off_at(cut_off, place as u8),
+    );
+    let _ = add_found(
+        &mut findings,
+        places,
+        |place| missed_at(&asked, place as u8),
+    );
     Ok(findings.len())
 }

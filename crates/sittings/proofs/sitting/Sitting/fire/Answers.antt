@@ -8,15 +8,15 @@ pub overflow_add-self : goal.overflow_add-self
 overflow_add-self g c =
     let s = c.args.self.now in
     let N = g.N.Net.meaning s.net in
-    let inside : c.args.step < 128 = omega (arith, N.law.few_steps, c.in-Some.ensures.0) in
-    omega (arith, c.done_total.ensures.answer, le_sum_to (at s.done) 128 c.args.step inside)
+    let inside : c.from.result < 128 = omega (arith, N.law.few_steps, c.in-Some.ensures.0, c.from.ensures) in
+    omega (arith, c.done_total.ensures.answer, le_sum_to (at s.done) 128 c.from.result inside)
 
 pub invariant_of-self : goal.invariant_of-self
 invariant_of-self g c =
     let s = c.args.self.now in
     let N = g.N.Net.meaning s.net in
-    let inside : c.args.step < 128 = omega (arith, N.law.few_steps, c.in-Some.ensures.0) in
+    let inside : c.from.result < 128 = omega (arith, N.law.few_steps, c.in-Some.ensures.0, c.from.ensures) in
     record {
-      long = length-set s.done c.args.step _ ∙ s.long;
-      total = omega (arith, c.done_total.ensures.answer, one_more_total s.done 128 c.args.step s.long inside);
+      long = length-set s.done c.from.result _ ∙ s.long;
+      total = omega (arith, c.done_total.ensures.answer, one_more_total s.done 128 c.from.result s.long inside);
     }

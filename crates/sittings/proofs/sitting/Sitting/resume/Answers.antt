@@ -36,8 +36,8 @@ returns-in_err-length g c =
       memory = refused.written;
     }
 
-pub add_tally-requires : goal.add_tally-requires
-add_tally-requires g c =
+pub with_tally-self-requires : goal.with_tally-self-requires
+with_tally-self-requires g c =
     let a = c.args.self.now in
     let N = g.N.Net.meaning a.net in
     let t = c.read-table.result in
@@ -78,6 +78,6 @@ invariant_of-self-2 g c =
     let done = subst OkF c.in_ok-length.was fired in
     let fits = fits_now N.net N.law s tally T (length memory) (accepted_with (resume_refusal N.net s tally T (length memory)) _ c.in_ok-length.length done.answer) in
     record {
-      long = c.add_tally.auto.done ∙ a.long;
-      total = omega (arith, added_total a.done tally c.add_tally.new.done N.net.steps fits.rows.tally_long N.law.few_steps c.add_tally.ensures, fits.within_limit);
+      long = search rules;
+      total = omega (arith, added_total a.done tally c.with_tally-self.result N.net.steps fits.rows.tally_long N.law.few_steps c.with_tally-self.ensures, fits.within_limit);
     }
