@@ -1,118 +1,74 @@
 //! Compares the boards and layers with a table of calls that another implementation answered.
 #![tactic(auto)]
 
-mod rows;
+mod asked;
+mod base;
+mod on_pile;
 mod table;
 
-use boards::board::Board;
+use anyhow::{bail, ensure};
+use asked::read;
+use base::Base;
 use boards::count_board::CountBoard;
-use calls::{Answer, all_counts, perform};
-use layers::allowance::Allowance;
-use layers::renaming::Renaming;
-use rows::Row;
+use calls::Answer;
+use comparisons::comparison::Line;
+use on_pile::{Full, OnPile, Under};
 use slot_board::SlotBoard;
 use std::io;
-use table::{Table, digest, digest_bytes};
+use table::Table;
+
+type FourLayers = Under<Under<Under<Under<Full>>>>;
 
 fn main(rt: HostRuntime) -> anyhow::Result<()> {
     let text = io::read_to_string(rt.alloc(), rt.stdin())?;
-    let lines = text.as_str().lines().collect::<Vec<&str>>(rt.alloc())?;
-    let mut table = Table::new(&rt, lines.as_slice());
-    for _ in 0..lines.len() {
-        match table.row()? {
-            Row::NewCounts => count_pile(&mut table)?,
-            Row::NewSlots => slot_pile(&mut table)?,
-            _ => break,
-        }
+    let lines: Vec<Line<'_>> = text.as_str().lines().map(Line::from).collect(rt.alloc())?;
+    let mut table = Table::new(&rt);
+    for pile in lines
+        .as_slice()
+        .chunk_by(|_, next| !next.asked.starts_with("new "))
+    {
+        compare(&mut table, pile)?;
     }
-    table.report()
+    let agreed = table.comparison.agreed;
+    let differing = table.comparison.differing;
+    if differing > 0 {
+        println!(rt; "{differing} lines differ")?;
+    }
+    println!(rt; "{agreed} lines agree")?;
+    Ok(())
 }
 
-// the rows on a pile over a count board
-fn count_pile(table: &mut Table<'_>) -> anyhow::Result<()> {
-    let mut board = CountBoard::new();
-    table.compare(&board, Answer::Accepted)?;
-    for _ in 0..table.left() {
-        let Row::Counts(spare, row) = table.row()? else {
+/// Compares the lines of a pile, from the one that makes its board to the one at its bottom.
+fn compare(table: &mut Table<'_>, pile: &[Line<'_>]) -> anyhow::Result<()> {
+    let [new, lines @ .., bottom] = pile else {
+        bail!("a new board and no more");
+    };
+    ensure!(bottom.asked == "bottom", "a pile without its bottom");
+    match new.asked {
+        "new counts" => on_board(table, new, lines, bottom, CountBoard::new()),
+        "new slots" => on_board(table, new, lines, bottom, SlotBoard::new()),
+        asked => bail!("no new board: {asked}"),
+    }
+}
+
+/// The loads of a new board, the lines on its pile, and what the board keeps in the end.
+fn on_board<B: Base + Drop>(
+    table: &mut Table<'_>,
+    new: &Line<'_>,
+    lines: &[Line<'_>],
+    bottom: &Line<'_>,
+    mut board: B,
+) -> anyhow::Result<()> {
+    table.compare(new, &board, Answer::Accepted)?;
+    let mut left = lines;
+    while let [line, rest @ ..] = left {
+        let Some(done) = board.load_row(&read(table.heap(), line.asked)?) else {
             break;
         };
-        let done = board.load(row.as_slice(), spare);
-        table.compare(&board, Answer::from(done))?;
+        table.compare(line, &board, Answer::from(done))?;
+        left = rest;
     }
-    let board = on_board(table, board)?;
-    let kept = digest(&all_counts(&board));
-    table.compare(&board, Answer::Number(kept))
-}
-
-// the rows on a pile over a slot board
-fn slot_pile(table: &mut Table<'_>) -> anyhow::Result<()> {
-    let mut board = SlotBoard::new();
-    table.compare(&board, Answer::Accepted)?;
-    for _ in 0..table.left() {
-        let Row::Slots(row) = table.row()? else {
-            break;
-        };
-        let done = board.load(row.as_slice());
-        table.compare(&board, Answer::from(done))?;
-    }
-    let board = on_board(table, board)?;
-    let kept = digest_bytes(board.slots());
-    table.compare(&board, Answer::Number(kept))
-}
-
-// the calls on a board, up to a row that is none
-fn calls_on<B: Board>(table: &mut Table<'_>, board: &mut B) -> anyhow::Result<Row> {
-    for _ in 0..table.left() {
-        match table.row()? {
-            Row::Call(call) => {
-                let answer = perform(board, call);
-                table.compare(board, answer)?;
-            }
-            other => return Ok(other),
-        }
-    }
-    Ok(Row::Unknown)
-}
-
-// the rows on a board and on the layers over it, each by the function above; gives the board back
-macro_rules! on_layers {
-    ($table:ident, $board:ident, $above:ident) => {{
-        let mut below = $board;
-        match calls_on($table, &mut below)? {
-            Row::Rename(row) => {
-                let mut layer = Renaming::new(below);
-                let done = layer.load(row.as_slice());
-                $table.compare(&layer, Answer::from(done))?;
-                Ok($above($table, layer)?.into_inner())
-            }
-            Row::Allow(left) => {
-                let layer = Allowance::new(below, left);
-                $table.compare(&layer, Answer::Accepted)?;
-                Ok($above($table, layer)?.into_inner())
-            }
-            _ => Ok(below),
-        }
-    }};
-}
-
-fn on_board<B: Board + Drop>(table: &mut Table<'_>, board: B) -> anyhow::Result<B> {
-    on_layers!(table, board, on_one)
-}
-
-fn on_one<B: Board + Drop>(table: &mut Table<'_>, board: B) -> anyhow::Result<B> {
-    on_layers!(table, board, on_two)
-}
-
-fn on_two<B: Board + Drop>(table: &mut Table<'_>, board: B) -> anyhow::Result<B> {
-    on_layers!(table, board, on_three)
-}
-
-fn on_three<B: Board + Drop>(table: &mut Table<'_>, board: B) -> anyhow::Result<B> {
-    on_layers!(table, board, on_four)
-}
-
-fn on_four<B: Board + Drop>(table: &mut Table<'_>, board: B) -> anyhow::Result<B> {
-    let mut board = board;
-    let _ = calls_on(table, &mut board)?;
-    Ok(board)
+    let board = FourLayers::run(table, left, board)?;
+    let kept = board.kept().value;
+    table.compare(bottom, &board, Answer::Number(kept))
 }

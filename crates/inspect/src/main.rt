@@ -25,56 +25,55 @@ fn bytes_of(rt: &HostRuntime, name: &str) -> anyhow::Result<Vec<u8>> {
     Ok(bytes)
 }
 
-/// Shows the net, or why its file was refused; true where it was accepted.
-fn show<N: Net>(
+/// Shows the net of a file, or why the file is refused; true where it is accepted.
+fn show<'a, N: Net + TryFrom<&'a [u8], Error = Refusal> + Drop>(
     rt: &HostRuntime,
     make: &str,
-    net: &N,
-    loaded: Result<(), Refusal>,
+    file: &'a [u8],
 ) -> io::Result<bool> {
-    match loaded {
-        Ok(()) => table::show(rt, make, net)?,
-        Err(refusal) => println!(rt; "{make} net: {refusal}")?,
+    match N::try_from(file) {
+        Ok(net) => {
+            table::show(rt, make, &net)?;
+            Ok(true)
+        }
+        Err(refusal) => {
+            println!(rt; "{make} net: {refusal}")?;
+            Ok(false)
+        }
     }
-    Ok(loaded.is_ok())
 }
 
-/// Shows one file; true where it was accepted.
+/// Shows one file; true where it is accepted.
 fn inspect(rt: &HostRuntime, make: &str, name: &str) -> anyhow::Result<bool> {
-    let bytes = bytes_of(rt, name)?;
-    let file = bytes.as_slice();
+    let file = bytes_of(rt, name)?;
     match make {
-        "grid" => {
-            let mut net = GridNet::new();
-            let loaded = net.load(file);
-            Ok(show(rt, make, &net, loaded)?)
-        }
-        "chained" => {
-            let mut net = ChainedNet::new();
-            let loaded = net.load(file);
-            Ok(show(rt, make, &net, loaded)?)
-        }
+        "grid" => Ok(show::<GridNet>(rt, make, file.as_slice())?),
+        "chained" => Ok(show::<ChainedNet>(rt, make, file.as_slice())?),
         _ => Err(anyhow!(USAGE)),
     }
 }
 
-/// Shows each file that the arguments name; true where all were accepted.
-fn run(rt: &HostRuntime) -> anyhow::Result<bool> {
-    let words: Vec<String> = env::args(rt)?.skip(1).collect(rt.alloc())?;
-    if words.len() == 1 {
-        return inspect(rt, words[0].as_str(), "-");
-    }
-    let mut accepted = true;
-    for pair in words.as_slice().chunks(2) {
+/// Shows each file that is named after its make, and answers how many are refused.
+fn inspect_all(rt: &HostRuntime, words: &[String]) -> anyhow::Result<usize> {
+    let mut refused = 0usize;
+    for pair in words.chunks(2) {
         let [make, name] = pair else {
             return Err(anyhow!(USAGE));
         };
-        accepted = inspect(rt, make.as_str(), name.as_str())? && accepted;
+        if !inspect(rt, make.as_str(), name.as_str())? {
+            refused = refused.saturating_add(1);
+        }
     }
-    if words.is_empty() {
-        Err(anyhow!(USAGE))
-    } else {
-        Ok(accepted)
+    Ok(refused)
+}
+
+/// Shows each file that the arguments name; true where all are accepted.
+fn run(rt: &HostRuntime) -> anyhow::Result<bool> {
+    let words: Vec<String> = env::args(rt)?.skip(1).collect(rt.alloc())?;
+    match words.as_slice() {
+        [] => Err(anyhow!(USAGE)),
+        [make] => inspect(rt, make.as_str(), "-"),
+        words => Ok(inspect_all(rt, words)? == 0),
     }
 }
 

@@ -10,11 +10,8 @@ fn yields<N: Net>(heap: Global, net: &N, step: u16) -> Result<String, AllocError
     for place in 0..net.places() {
         let blocks = net.yield_at(step, place);
         if blocks > 0 {
-            if !text.is_empty() {
-                text.push_str(", ")?;
-            }
-            let part = format!(in heap; "{blocks} at {place}")?;
-            text.push_str(part.as_str())?;
+            let comma = if text.is_empty() { "" } else { ", " };
+            write!(text, "{comma}{blocks} at {place}")?;
         }
     }
     Ok(text)

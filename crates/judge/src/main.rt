@@ -1,24 +1,15 @@
 //! Judges exam sheets: the one on standard input, or each file that is named.
 #![tactic(auto)]
 
-use anyhow::anyhow;
-use sheets::judge;
+use anyhow::ensure;
+use sheet_lines::line_of;
 use std::io::{Read, Write};
 use std::{env, fs};
 
-/// The longest line: `ok`, 4,096 steps of three digits, each after a space, and the line's end.
-const LONGEST_LINE: usize = 16387;
-
 /// Prints the line of a sheet.
 fn print_line(rt: &HostRuntime, sheet: &[u8]) -> anyhow::Result<()> {
-    let mut text = vec![in rt.alloc(); 0u8; LONGEST_LINE]?;
-    match judge(sheet, text.as_mut_slice()) {
-        Ok(length) => {
-            text.truncate(length);
-            Ok(rt.stdout().write_all(text.as_slice())?)
-        }
-        Err(_) => Err(anyhow!("a line is longer than any can be")),
-    }
+    let line = line_of(rt.alloc(), sheet)?;
+    Ok(rt.stdout().write_all(line.as_slice())?)
 }
 
 /// Prints the line of the sheet on standard input.
@@ -44,24 +35,24 @@ fn judge_file(rt: &HostRuntime, name: &str) -> anyhow::Result<bool> {
     }
 }
 
-/// Judges what is named, or standard input where nothing is.
-fn run(rt: &HostRuntime) -> anyhow::Result<()> {
-    let mut named = false;
-    let mut all_read = true;
-    for name in env::args(rt)?.skip(1) {
-        named = true;
-        all_read = judge_file(rt, name.as_str())? && all_read;
+/// Judges each file that is named.
+fn judge_files(rt: &HostRuntime, names: &[String]) -> anyhow::Result<()> {
+    let mut unread = 0usize;
+    for name in names {
+        if !judge_file(rt, name.as_str())? {
+            unread = unread.saturating_add(1);
+        }
     }
-    if !named {
-        return judge_input(rt);
-    }
-    if all_read {
-        Ok(())
-    } else {
-        Err(anyhow!("not every file could be read"))
-    }
+    ensure!(unread == 0, "not every file could be read");
+    Ok(())
 }
 
+/// Judges what is named, or standard input where nothing is.
 fn main(rt: HostRuntime) -> anyhow::Result<()> {
-    run(&rt)
+    let names: Vec<String> = env::args(&rt)?.skip(1).collect(rt.alloc())?;
+    if names.is_empty() {
+        judge_input(&rt)
+    } else {
+        judge_files(&rt, names.as_slice())
+    }
 }

@@ -1,123 +1,94 @@
 //! Compares sittings with a table of calls that another implementation answered.
 #![tactic(auto)]
 
-mod digests;
+mod asked;
+mod on_pile;
 mod performed;
-mod rows;
 mod summary;
 mod table;
 
-use anyhow::anyhow;
-use boards::board::Board;
+use anyhow::{bail, ensure};
+use asked::{Asked, read};
 use boards::count_board::CountBoard;
 use calls::{Answer, all_counts};
-use digests::Digest;
-use layers::allowance::Allowance;
-use layers::renaming::Renaming;
+use comparisons::comparison::Line;
+use comparisons::digest::Digest;
 use nets::chained::ChainedNet;
 use nets::grid::GridNet;
 use nets::net::Net;
-use performed::sit;
+use on_pile::{Full, OnPile, Under};
 use refusals::Refusal;
-use rows::Row;
 use slot_board::SlotBoard;
 use std::io;
 use table::Table;
 
+type TwoLayers = Under<Under<Full>>;
+
 fn main(rt: HostRuntime) -> anyhow::Result<()> {
     let text = io::read_to_string(rt.alloc(), rt.stdin())?;
-    let lines = text.as_str().lines().collect::<Vec<&str>>(rt.alloc())?;
-    let mut table = Table::new(&rt, lines.as_slice());
-    for _ in 0..lines.len() {
-        match table.row()? {
-            Row::Grid(file) => grid_sitting(&mut table, file.as_slice())?,
-            Row::Chained(file) => chained_sitting(&mut table, file.as_slice())?,
-            _ => break,
-        }
+    let lines: Vec<Line<'_>> = text.as_str().lines().map(Line::from).collect(rt.alloc())?;
+    let mut table = Table::new(&rt);
+    for part in lines
+        .as_slice()
+        .chunk_by(|_, next| !next.asked.starts_with("net "))
+    {
+        compare(&mut table, part)?;
     }
-    table.report()
+    Ok(table.report()?)
 }
 
-fn grid_sitting<'a>(table: &mut Table<'_>, file: &'a [u8]) -> anyhow::Result<()> {
-    let mut net: GridNet<'a> = GridNet::new();
-    let loaded = net.load(file);
-    if loads(table, loaded)? {
-        on_net(table, net)?;
-    }
-    Ok(())
-}
-
-fn chained_sitting<'a>(table: &mut Table<'_>, file: &'a [u8]) -> anyhow::Result<()> {
-    let mut net: ChainedNet<'a> = ChainedNet::new();
-    let loaded = net.load(file);
-    if loads(table, loaded)? {
-        on_net(table, net)?;
-    }
-    Ok(())
-}
-
-// whether a net file was accepted
-fn loads(table: &mut Table<'_>, loaded: Result<(), Refusal>) -> anyhow::Result<bool> {
-    if loaded.is_err() {
-        table.totals.refuse_file();
-    }
-    table.compare(Answer::from(loaded))?;
-    Ok(loaded.is_ok())
-}
-
-// the sitting on the board that comes next, which is compared at the end
-fn on_net<N: Net + Drop>(table: &mut Table<'_>, net: N) -> anyhow::Result<()> {
-    let mut digest = Digest::new();
-    match table.row()? {
-        Row::Counts(spare, row) => {
-            let mut board = CountBoard::new();
-            let loaded = board.load(row.as_slice(), spare);
-            table.compare(Answer::from(loaded))?;
-            digest.add_all(&all_counts(&on_board(table, net, board)?));
-        }
-        Row::Slots(row) => {
-            let mut board = SlotBoard::new();
-            let loaded = board.load(row.as_slice());
-            table.compare(Answer::from(loaded))?;
-            digest.add_bytes(on_board(table, net, board)?.slots());
-        }
-        _ => return Err(anyhow!("a net without a board")),
-    }
-    table.compare(Answer::Number(digest.value()))
-}
-
-// the sitting on a pile, with the layer that comes next put on by the function above; gives the board back
-macro_rules! on_layers {
-    ($table:ident, $net:ident, $board:ident, $above:ident) => {
-        match $table.row()? {
-            Row::Rename(row) => {
-                let mut layer = Renaming::new($board);
-                let loaded = layer.load(row.as_slice());
-                $table.compare(Answer::from(loaded))?;
-                Ok($above($table, $net, layer)?.into_inner())
-            }
-            Row::Allow(left) => {
-                let layer = Allowance::new($board, left);
-                $table.compare(Answer::Accepted)?;
-                Ok($above($table, $net, layer)?.into_inner())
-            }
-            _ => sit($table, $net, $board),
-        }
+/// Compares the lines of one net, from its file on.
+fn compare(table: &mut Table<'_>, lines: &[Line<'_>]) -> anyhow::Result<()> {
+    let Some((line, left)) = lines.split_first() else {
+        return Ok(());
     };
+    match read(table.heap(), line.asked)? {
+        Asked::Grid(file) => on_file::<GridNet>(table, line, left, file.as_slice()),
+        Asked::Chained(file) => on_file::<ChainedNet>(table, line, left, file.as_slice()),
+        _ => bail!("no net file"),
+    }
 }
 
-fn on_board<N: Net + Drop, B: Board + Drop>(
+fn on_file<'a, N: Net + TryFrom<&'a [u8], Error = Refusal> + Drop>(
     table: &mut Table<'_>,
-    net: N,
-    board: B,
-) -> anyhow::Result<B> {
-    on_layers!(table, net, board, on_one)
+    line: &Line<'_>,
+    left: &[Line<'_>],
+    file: &'a [u8],
+) -> anyhow::Result<()> {
+    match N::try_from(file) {
+        Ok(net) => {
+            table.compare(line, Answer::Accepted)?;
+            on_net(table, left, net)
+        }
+        Err(refusal) => {
+            ensure!(left.is_empty(), "a board for a net that is refused");
+            table.totals.refuse_file();
+            table.compare(line, Answer::Refused(refusal))
+        }
+    }
 }
 
-fn on_one<N: Net + Drop, B: Board + Drop>(
-    table: &mut Table<'_>,
-    net: N,
-    board: B,
-) -> anyhow::Result<B> {
-    on_layers!(table, net, board, sit)
+/// The sitting on the board that comes next, which is compared at the end.
+fn on_net<N: Net + Drop>(table: &mut Table<'_>, lines: &[Line<'_>], net: N) -> anyhow::Result<()> {
+    let [load, lines @ .., bottom] = lines else {
+        bail!("a net without a board");
+    };
+    ensure!(bottom.asked == "bottom", "a sitting without its bottom");
+    let mut digest = Digest::new();
+    match read(table.heap(), load.asked)? {
+        Asked::Counts(row, spare) => {
+            let mut board = CountBoard::new();
+            let done = board.load(row.as_slice(), spare);
+            table.compare(load, Answer::from(done))?;
+            digest.add_all(&all_counts(&TwoLayers::run(table, lines, net, board)?));
+        }
+        Asked::Slots(row) => {
+            let mut board = SlotBoard::new();
+            let done = board.load(row.as_slice());
+            table.compare(load, Answer::from(done))?;
+            digest.add_all(TwoLayers::run(table, lines, net, board)?.slots());
+        }
+        _ => bail!("a net without a board"),
+    }
+    table.compare(bottom, Answer::Number(digest.value))
 }

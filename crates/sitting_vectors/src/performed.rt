@@ -1,12 +1,13 @@
 //! The calls of a sitting, made with memory that is filled beforehand, and compared with the table.
-use crate::digests::Digest;
-use crate::rows::{Request, Row};
-use crate::summary::Kind;
+use crate::asked::{Asked, Request, read};
 use crate::table::Table;
 use answers::{Cause, Finding};
+use anyhow::bail;
 use boards::board::Board;
 use calls::{Answer, all_counts};
 use checks::Target;
+use comparisons::comparison::Line;
+use comparisons::digest::Digest;
 use nets::net::Net;
 use refusals::Refusal;
 use sittings::sitting::Sitting;
@@ -15,46 +16,56 @@ use std::alloc::{AllocError, Global};
 /// All lines of a sitting, from the one that begins it to the last call; gives the board back.
 pub(crate) fn sit<N: Net + Drop, B: Board + Drop>(
     table: &mut Table<'_>,
+    lines: &[Line<'_>],
     net: N,
     board: B,
 ) -> anyhow::Result<B> {
     let mut sitting = Sitting::new(net, board);
-    table.totals.begin();
-    let state = digest_of(&sitting).value();
-    table.compare_state(Answer::Accepted, state)?;
-    for _ in 0..table.left() {
-        match table.row()? {
-            Row::Fire(step) => fire(table, &mut sitting, step)?,
-            Row::Resume(request) => resume(table, &mut sitting, &request)?,
-            Row::Survey(request) => survey(table, &sitting, &request)?,
-            _ => break,
+    for line in lines {
+        match read(table.heap(), line.asked)? {
+            Asked::Sit => begin(table, line, &sitting)?,
+            Asked::Fire(step) => fire(table, line, &mut sitting, step)?,
+            Asked::Resume(request) => resume(table, line, &mut sitting, &request)?,
+            Asked::Survey(request) => survey(table, line, &sitting, &request)?,
+            _ => bail!("no call of a sitting"),
         }
     }
     let (_, board, _) = sitting.into_parts();
     Ok(board)
 }
 
-// the counts, the spare and the done row
+/// The counts, the spare and the done row.
 fn digest_of<N: Net, B: Board>(sitting: &Sitting<N, B>) -> Digest {
     let mut digest = Digest::new();
     digest.add_all(&all_counts(sitting.board()));
     digest.add(sitting.board().spare());
-    digest.add_halves(sitting.done());
+    digest.add_all(sitting.done());
     digest
+}
+
+fn begin<N: Net, B: Board>(
+    table: &mut Table<'_>,
+    line: &Line<'_>,
+    sitting: &Sitting<N, B>,
+) -> anyhow::Result<()> {
+    table.totals.begin();
+    table.compare_state(line, Answer::Accepted, digest_of(sitting))
 }
 
 fn fire<N: Net, B: Board>(
     table: &mut Table<'_>,
+    line: &Line<'_>,
     sitting: &mut Sitting<N, B>,
     step: u16,
 ) -> anyhow::Result<()> {
-    let answer = Answer::from(sitting.fire(step));
-    table.totals.note(Kind::Fire, answer);
-    table.compare_state(answer, digest_of(sitting).value())
+    let done = sitting.fire(step);
+    table.totals.fire(done)?;
+    table.compare_state(line, Answer::from(done), digest_of(sitting))
 }
 
 fn resume<N: Net, B: Board>(
     table: &mut Table<'_>,
+    line: &Line<'_>,
     sitting: &mut Sitting<N, B>,
     request: &Request,
 ) -> anyhow::Result<()> {
@@ -64,15 +75,15 @@ fn resume<N: Net, B: Board>(
         target_of(request),
         order.as_mut_slice(),
     );
-    let answer = length_of(done);
     let mut digest = digest_of(sitting);
-    digest.add_halves(order.as_slice());
-    table.totals.note(Kind::Resume, answer);
-    table.compare_state(answer, digest.value())
+    digest.add_all(order.as_slice());
+    table.totals.resume(done)?;
+    table.compare_state(line, length_of(done), digest)
 }
 
 fn survey<N: Net, B: Board>(
     table: &mut Table<'_>,
+    line: &Line<'_>,
     sitting: &Sitting<N, B>,
     request: &Request,
 ) -> anyhow::Result<()> {
@@ -82,11 +93,10 @@ fn survey<N: Net, B: Board>(
         target_of(request),
         findings.as_mut_slice(),
     );
-    let answer = length_of(done);
     let mut digest = digest_of(sitting);
-    digest.add_findings(findings.as_slice());
-    table.totals.note(Kind::Survey, answer);
-    table.compare_state(answer, digest.value())
+    add_findings(&mut digest, findings.as_slice());
+    table.totals.survey(done)?;
+    table.compare_state(line, length_of(done), digest)
 }
 
 fn target_of(request: &Request) -> Target<'_> {
@@ -103,29 +113,43 @@ fn length_of(done: Result<usize, Refusal>) -> Answer {
     }
 }
 
-// order memory before a call: no entry is the number of a step
-fn order_memory(heap: Global, length: usize) -> Result<Vec<u16>, AllocError> {
-    let mut memory = Vec::new(heap);
-    for k in 0..length {
-        memory.push(200 + (k % 56) as u16)?;
+/// Each finding as four numbers: place, cause, and the low and the high half of its number.
+fn add_findings(digest: &mut Digest, findings: &[Finding]) {
+    for finding in findings {
+        digest.add(u32::from(finding.place));
+        digest.add(refusal_of(finding.cause));
+        digest.add_bytes(&finding.cause.number().to_le_bytes());
     }
-    Ok(memory)
 }
 
-// findings memory before a call: no finding has a place of a net
-fn findings_memory(heap: Global, length: usize) -> Result<Vec<Finding>, AllocError> {
-    let mut memory = Vec::new(heap);
-    for k in 0..length {
-        let number = 1000i64.saturating_add(i64::try_from(k).unwrap_or(0));
-        let cause = match k % 3 {
-            0 => Cause::Short(number.saturating_neg()),
-            1 => Cause::CutOff,
-            _ => Cause::Missed(number),
-        };
-        memory.push(Finding {
-            place: 200 + (k % 56) as u8,
-            cause,
-        })?;
+/// The number of the refusal for the same cause.
+fn refusal_of(cause: Cause) -> u32 {
+    match cause {
+        Cause::Short(_) => 11,
+        Cause::CutOff => 12,
+        Cause::Missed(_) => 13,
     }
-    Ok(memory)
+}
+
+/// Order memory before a call: no entry is the number of a step.
+fn order_memory(heap: Global, length: usize) -> Result<Vec<u16>, AllocError> {
+    (0..length).map(|k| 200 + (k % 56) as u16).collect(heap)
+}
+
+/// Findings memory before a call: no finding has a place of a net.
+fn findings_memory(heap: Global, length: usize) -> Result<Vec<Finding>, AllocError> {
+    (0..length).map(finding_before).collect(heap)
+}
+
+fn finding_before(k: usize) -> Finding {
+    let number = 1000i64.saturating_add(i64::try_from(k).unwrap_or(0));
+    let cause = match k % 3 {
+        0 => Cause::Short(number.saturating_neg()),
+        1 => Cause::CutOff,
+        _ => Cause::Missed(number),
+    };
+    Finding {
+        place: 200 + (k % 56) as u8,
+        cause,
+    }
 }

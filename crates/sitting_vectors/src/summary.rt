@@ -1,54 +1,31 @@
-//! How many calls were made, how they were answered, and how many answers differ from the table.
-use calls::Answer;
+//! How many calls were made, and how they were answered.
+use comparisons::outcomes::{Outcomes, Refused};
+use refusals::Refusal;
+use std::alloc::{AllocError, Global};
 use std::io;
-
-/// The calls of a sitting.
-#[derive(Clone, Copy)]
-pub(crate) enum Kind {
-    Fire,
-    Resume,
-    Survey,
-}
-
-#[derive(Clone, Copy, Default)]
-struct Calls {
-    accepted: u32,
-    refused: u32,
-}
-
-impl Calls {
-    fn print(&self, rt: &HostRuntime, word: &str) -> io::Result<()> {
-        let accepted = self.accepted;
-        let refused = self.refused;
-        println!(rt; "{word}: {accepted} accepted, {refused} refused")
-    }
-}
-
-// the refusals of a sitting
-const NUMBERS: [u8; 10] = [7, 8, 9, 10, 11, 12, 13, 14, 15, 21];
 
 /// What was counted so far.
 #[derive(Drop)]
 pub(crate) struct Totals {
     sittings: u32,
     refused_files: u32,
-    fires: Calls,
-    resumes: Calls,
-    surveys: Calls,
-    by_number: [u32; 32],
-    longest_order: u32,
-    most_findings: u32,
+    fires: Outcomes,
+    resumes: Outcomes,
+    surveys: Outcomes,
+    refused: Refused,
+    longest_order: usize,
+    most_findings: usize,
 }
 
 impl Totals {
-    pub(crate) fn new() -> Totals {
+    pub(crate) fn new(heap: Global) -> Totals {
         Totals {
             sittings: 0,
             refused_files: 0,
-            fires: Calls::default(),
-            resumes: Calls::default(),
-            surveys: Calls::default(),
-            by_number: [0; 32],
+            fires: Outcomes::default(),
+            resumes: Outcomes::default(),
+            surveys: Outcomes::default(),
+            refused: Refused::new(heap),
             longest_order: 0,
             most_findings: 0,
         }
@@ -64,37 +41,30 @@ impl Totals {
         self.refused_files = self.refused_files.saturating_add(1);
     }
 
-    /// A call of a sitting.
-    pub(crate) fn note(&mut self, kind: Kind, answer: Answer) {
-        let calls = match kind {
-            Kind::Fire => &mut self.fires,
-            Kind::Resume => &mut self.resumes,
-            Kind::Survey => &mut self.surveys,
-        };
-        match answer {
-            Answer::Refused(refusal) => {
-                calls.refused = calls.refused.saturating_add(1);
-                self.note_refusal(refusal.number());
-            }
-            Answer::Accepted => calls.accepted = calls.accepted.saturating_add(1),
-            Answer::Number(length) => {
-                calls.accepted = calls.accepted.saturating_add(1);
-                self.note_length(kind, length);
-            }
-        }
+    /// What a fire answered.
+    pub(crate) fn fire(&mut self, done: Result<(), Refusal>) -> Result<(), AllocError> {
+        self.fires.add(done.is_ok());
+        self.count_refusal(done.err())
     }
 
-    fn note_refusal(&mut self, number: u8) {
-        let index = number as usize;
-        if index < 32 {
-            self.by_number[index] = self.by_number[index].saturating_add(1);
-        }
+    /// What a resume answered.
+    pub(crate) fn resume(&mut self, done: Result<usize, Refusal>) -> Result<(), AllocError> {
+        self.resumes.add(done.is_ok());
+        self.longest_order = self.longest_order.max(done.unwrap_or(0));
+        self.count_refusal(done.err())
     }
 
-    fn note_length(&mut self, kind: Kind, length: u32) {
-        match kind {
-            Kind::Survey => self.most_findings = self.most_findings.max(length),
-            _ => self.longest_order = self.longest_order.max(length),
+    /// What a survey answered.
+    pub(crate) fn survey(&mut self, done: Result<usize, Refusal>) -> Result<(), AllocError> {
+        self.surveys.add(done.is_ok());
+        self.most_findings = self.most_findings.max(done.unwrap_or(0));
+        self.count_refusal(done.err())
+    }
+
+    fn count_refusal(&mut self, refusal: Option<Refusal>) -> Result<(), AllocError> {
+        match refusal {
+            Some(refusal) => self.refused.add(refusal),
+            None => Ok(()),
         }
     }
 
@@ -103,16 +73,16 @@ impl Totals {
         let sittings = self.sittings;
         let files = self.refused_files;
         println!(rt; "{sittings} sittings, {files} net files refused")?;
-        self.fires.print(rt, "fire")?;
-        self.resumes.print(rt, "resume")?;
-        self.surveys.print(rt, "survey")?;
-        for number in NUMBERS {
-            let count = self.by_number[number as usize];
-            println!(rt; "refusal {number}: {count}")?;
-        }
+        let fires = self.fires;
+        println!(rt; "fire: {fires}")?;
+        let resumes = self.resumes;
+        println!(rt; "resume: {resumes}")?;
+        let surveys = self.surveys;
+        println!(rt; "survey: {surveys}")?;
+        self.refused.print(rt)?;
         let order = self.longest_order;
-        let findings = self.most_findings;
         println!(rt; "longest order: {order}")?;
+        let findings = self.most_findings;
         println!(rt; "most findings: {findings}")
     }
 }

@@ -1,15 +1,31 @@
-//! All that a net answers, as one line of text.
-use nets::chained::ChainedNet;
-use nets::grid::GridNet;
+//! All that a net answers, as three numbers.
+use comparisons::outcomes::Outcomes;
 use nets::net::Net;
 use refusals::Refusal;
-use std::alloc::{AllocError, Global};
+use std::fmt;
 
 const ABSENT: u8 = 255;
 
+/// How many places and steps a net has, and a digest of all its answers.
+#[derive(Clone, Copy)]
+pub(crate) struct Answers {
+    places: u8,
+    steps: u16,
+    digest: u32,
+}
+
+impl fmt::Display for Answers {
+    fn fmt<W: fmt::Write>(&self, f: &mut fmt::Formatter<W>) -> fmt::Result {
+        let places = self.places;
+        let steps = self.steps;
+        let digest = self.digest;
+        write!(f, "ok {places} {steps} {digest}")
+    }
+}
+
 /// One more number in a digest.
 fn mix(digest: u32, number: u8) -> u32 {
-    ((digest as u64 * 31 + number as u64 + 1) % 65521) as u32
+    ((u64::from(digest) * 31 + u64::from(number) + 1) % 65521) as u32
 }
 
 /// The answers for one step: its input, and its yields, at two places past the last too.
@@ -31,38 +47,17 @@ fn digest_of<N: Net>(net: &N) -> u32 {
     digest
 }
 
-fn text<N: Net>(heap: Global, net: &N, loaded: Result<(), Refusal>) -> Result<String, AllocError> {
-    match loaded {
-        Ok(()) => {
-            let places = net.places();
-            let steps = net.steps();
-            let digest = digest_of(net);
-            format!(in heap; "ok {places} {steps} {digest}")
-        }
-        Err(refusal) => {
-            let number = refusal.number();
-            let detail = refusal.detail();
-            format!(in heap; "no {number} {detail}")
-        }
-    }
-}
-
-/// What a grid net loaded from the file answers.
-pub(crate) fn of_grid(
-    heap: Global,
-    file: &[u8],
-) -> Result<(Result<(), Refusal>, String), AllocError> {
-    let mut net = GridNet::new();
-    let loaded = net.load(file);
-    Ok((loaded, text(heap, &net, loaded)?))
-}
-
-/// What a chained net loaded from the file answers.
-pub(crate) fn of_chained(
-    heap: Global,
-    file: &[u8],
-) -> Result<(Result<(), Refusal>, String), AllocError> {
-    let mut net = ChainedNet::new();
-    let loaded = net.load(file);
-    Ok((loaded, text(heap, &net, loaded)?))
+/// What the net of a file answers, or why the file is refused, which is counted.
+pub(crate) fn of_file<'a, N: Net + TryFrom<&'a [u8], Error = Refusal> + Drop>(
+    file: &'a [u8],
+    files: &mut Outcomes,
+) -> Result<Answers, Refusal> {
+    let read = N::try_from(file);
+    files.add(read.is_ok());
+    let net = read?;
+    Ok(Answers {
+        places: net.places(),
+        steps: net.steps(),
+        digest: digest_of(&net),
+    })
 }

@@ -1,0 +1,5 @@
+use Rattle.std.proofs.Common.{length}
+use Rattle.board_vectors.proofs.on_board.Given as goal
+
+abbrev pub decreases-loop-left : goal.decreases-loop-left
+decreases-loop-left g l = length l.left

@@ -1,0 +1,3 @@
+pub mod Counted
+pub mod Digests
+pub mod Sides
