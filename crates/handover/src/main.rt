@@ -33,8 +33,7 @@ fn run(rt: &HostRuntime) -> anyhow::Result<Outcome> {
     let text = io::read_to_string(rt.alloc(), rt.stdin())?;
     let day = Day::read(rt.alloc(), text.as_str())?;
     let file = day.net_bytes()?;
-    let mut net = GridNet::new();
-    net.load(file.as_slice()).map_err(Unfit::Net)?;
+    let net = GridNet::try_from(file.as_slice()).map_err(Unfit::Net)?;
     make(rt, &day, net)
 }
 

@@ -12,10 +12,7 @@ use schedules::schedule::Schedule;
 use totals::finals::Asked;
 
 /// Refused for the least short place, else for the least cut-off place, else for the least missed place.
-pub(crate) fn check_causes<N: Net>(
-    asked: &Asked<'_, N>,
-    schedule: &Schedule,
-) -> Result<(), Refusal>
+pub(crate) fn check_causes<N: Net>(asked: &Asked<'_, N>, schedule: &Schedule) -> Result<(), Refusal>
     requires { Shows (N.meaning asked.now.net.now).net (at asked.now.counts.now) (at asked.now.tally.now) schedule.now }
     ensures { result ≡ answered (cause_refusal (N.meaning asked.now.net.now).net (at asked.now.counts.now) (at asked.now.tally.now) (target_with asked.now.target.now asked.now.kind)) tt }
 {

@@ -1,6 +1,5 @@
 mod Searching
 mod Flagged
-mod FilledSo
 mod Agreeing
 mod Shown
 mod Reaching

@@ -20,7 +20,6 @@ use checks::Target;
 use layers::allowance::Allowance;
 use layers::renaming::Renaming;
 use nets::bytes::byte_at;
-use nets::chained::ChainedNet;
 use nets::net::Net;
 use refusals::Refusal;
 use sittings::sitting::Sitting;
@@ -74,8 +73,7 @@ pub(crate) fn find_order(sheet: &Sheet<'_>, order: &mut [u16]) -> Result<usize, 
     requires { length order.old ≡ order_entries }
     ensures { Found sheet.now.bytes.now order.old result order.new }
 {
-    let mut net = ChainedNet::new();
-    sheet.load_net(&mut net)?;
+    let net = sheet.net()?;
     let kind = Kind::try_from(byte_at(sheet.bytes, sheet.parts.kind))?;
     let starts = read_fours(sheet.bytes, sheet.parts.starts, net.places());
     let board = board_of(&starts)?;

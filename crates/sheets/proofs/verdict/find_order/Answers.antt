@@ -1,7 +1,6 @@
-use Rattle.std.proofs.Common.{◌≡◌, ◌<◌, min, true, false, not, Some, None, Ok, Err, sym, refl, ap, ◌∙◌, arith, rules}
+use Rattle.std.proofs.Common.{◌≡◌, ◌<◌, min, true, false, not, Some, None, Err, sym, refl, ap, ◌∙◌, arith, rules}
 use mathlib.Core.Path.{fun_ext}
 use Rattle.std.proofs.lemmas.Bool.{lt-ltb, le-ltb}
-use Rattle.refusals.specs.Answered.{answered}
 use Rattle.refusals.specs.declared.Refusal.TheVariants.{RowsUnfit, BoardRowUnfit}
 use Rattle.theory.specs.Rows.{at}
 use Rattle.formats.specs.Checks.{byte}
@@ -12,7 +11,6 @@ use Rattle.answers.specs.Kinds.{byte_of}
 use Rattle.answers.specs.States.{new_on}
 use Rattle.boards.specs.Rows.{at_place}
 use Rattle.layers.specs.Renamings.{renamed}
-use Rattle.answers.proofs.Answered.{refused_with, accepted_with}
 use Rattle.sheets.specs.Parts.{below, fours, net_of, start_of, kind_of, tally_of, target_in}
 use Rattle.sheets.specs.Verdicts.{net_refusal, kind_unknown, unlawful, sitting_of}
 use Rattle.sheets.proofs.Forms.{same_form}
@@ -24,22 +22,20 @@ byte_small : (kind : Kind) → byte_of kind < 2
 byte_small Exact = omega arith
 byte_small AtLeast = omega arith
 
-pub returns-in_err-load_net : goal.returns-in_err-load_net
-returns-in_err-load_net c =
+pub returns-in_err-net : goal.returns-in_err-net
+returns-in_err-net c =
     let sheet = c.args.sheet.now.bytes.now in
     let memory = c.args.order.now in
-    let e = c.in_err-load_net.field-0.0 in
+    let e = c.in_err-net.field-0.0 in
     let said : c.from_residual.result ≡ Err e = search rules in
-    let loaded : Err e ≡ answered (net_refusal sheet) tt = sym c.in_err-load_net.was ∙ c.load_net.ensures.answer in
     found_unfit sheet memory e c.from_residual.result said
-    (same_form (net_refusal sheet) (Some e) (kind_unknown sheet) (kind_unknown sheet) (unlawful (start_of sheet)) (unlawful (start_of sheet)) (refused_with (net_refusal sheet) tt e loaded) refl refl)
+    (same_form (net_refusal sheet) (Some e) (kind_unknown sheet) (kind_unknown sheet) (unlawful (start_of sheet)) (unlawful (start_of sheet)) c.in_err-net.ensures refl refl)
 
 pub returns-in_err-kind : goal.returns-in_err-kind
 returns-in_err-kind c =
     let sheet = c.args.sheet.now.bytes.now in
     let memory = c.args.order.now in
-    let loaded : Ok tt ≡ answered (net_refusal sheet) tt = sym c.in_ok-load_net.was ∙ c.load_net.ensures.answer in
-    let net : net_refusal sheet ≡ None = accepted_with (net_refusal sheet) tt tt loaded in
+    let net : net_refusal sheet ≡ None = c.in_ok-net.ensures.0 in
     let unknown = c.in_err-kind.ensures in
     let kind : kind_unknown sheet ≡ true =
     ap not (le-ltb (kind_of sheet) 2 (omega (arith, unknown.0, c.byte_at.ensures, ap (byte sheet) c.args.sheet.now.found.kind))) in
@@ -52,9 +48,8 @@ pub returns-in_err-board : goal.returns-in_err-board
 returns-in_err-board c =
     let sheet = c.args.sheet.now.bytes.now in
     let memory = c.args.order.now in
-    let loaded : Ok tt ≡ answered (net_refusal sheet) tt = sym c.in_ok-load_net.was ∙ c.load_net.ensures.answer in
-    let net : net_refusal sheet ≡ None = accepted_with (net_refusal sheet) tt tt loaded in
-    let file = c.load_net.ensures.after c.in_ok-load_net.was in
+    let net : net_refusal sheet ≡ None = c.in_ok-net.ensures.0 in
+    let file = c.in_ok-net.ensures.1 in
     let kind : kind_unknown sheet ≡ false =
     ap not (lt-ltb (kind_of sheet) 2 (omega (arith, c.in_ok-kind.ensures, byte_small c.in_ok-kind.kind, c.byte_at.ensures, ap (byte sheet) c.args.sheet.now.found.kind))) in
     let places : c.places.result ≡ chained_places sheet = c.places.ensures ∙ ap chained_places file ∙ head_kept sheet 0 (omega arith) in
@@ -71,7 +66,7 @@ returns-in_err-board c =
 pub resume_sheet-requires : goal.resume_sheet-requires
 resume_sheet-requires c =
     let sheet = c.args.sheet.now.bytes.now in
-    let file = c.load_net.ensures.after c.in_ok-load_net.was in
+    let file = c.in_ok-net.ensures.1 in
     record {
       kind = sym c.in_ok-kind.ensures ∙ c.byte_at.ensures ∙ ap (byte sheet) c.args.sheet.now.found.kind;
       places = ap chained_places file ∙ head_kept sheet 0 (omega arith);
@@ -82,9 +77,8 @@ pub returns : goal.returns
 returns c =
     let sheet = c.args.sheet.now.bytes.now in
     let memory = c.args.order.now in
-    let loaded : Ok tt ≡ answered (net_refusal sheet) tt = sym c.in_ok-load_net.was ∙ c.load_net.ensures.answer in
-    let net : net_refusal sheet ≡ None = accepted_with (net_refusal sheet) tt tt loaded in
-    let file = c.load_net.ensures.after c.in_ok-load_net.was in
+    let net : net_refusal sheet ≡ None = c.in_ok-net.ensures.0 in
+    let file = c.in_ok-net.ensures.1 in
     let kind : kind_unknown sheet ≡ false =
     ap not (lt-ltb (kind_of sheet) 2 (omega (arith, c.in_ok-kind.ensures, byte_small c.in_ok-kind.kind, c.byte_at.ensures, ap (byte sheet) c.args.sheet.now.found.kind))) in
     let places : c.places.result ≡ chained_places sheet = c.places.ensures ∙ ap chained_places file ∙ head_kept sheet 0 (omega arith) in
@@ -100,6 +94,6 @@ returns c =
     let memory' = c.resume_sheet.new.order in
     let form = same_form (net_refusal sheet) None (kind_unknown sheet) false (unlawful (start_of sheet)) false net kind (sym (ap unlawful starts) ∙ fits.0) in
     let board : new_on counts spare ≡ sitting_of sheet = ap (λ z. new_on z spare) (fits.1 ∙ starts) ∙ ap (new_on (start_of sheet)) fits.2 in
-    let N = chained_net c.load_net.new.net.file.now in
+    let N = chained_net c.in_ok-net.net.file.now in
     found_resumed sheet memory r memory' c.requires form c.resume_sheet.ensures.fits
     (like (Resumed r memory memory') N (net_of sheet) (new_on counts spare) (sitting_of sheet) (tally_of sheet) (tally_of sheet) (target_in sheet) (target_in sheet) (ap chained_net file) board refl refl c.resume_sheet.ensures.resumed)
