@@ -70,8 +70,10 @@ impl<'a> Day<'a> {
 
     fn read_line(&mut self, code: &'a str) -> Result<(), Fault<'a>> {
         let words = words(self.alloc, code)?;
-        match lines::read(self.alloc, words.as_slice(), self.sizes)? {
-            Line::Nothing => Ok(()),
+        let Some((first, rest)) = words.as_slice().split_first() else {
+            return Ok(());
+        };
+        match lines::read(self.alloc, *first, rest, self.sizes)? {
             Line::Places(places) => once(&mut self.net, NetFile::new(self.alloc, places), "places"),
             Line::Step(input, yields) => self.add_step(input, yields.as_slice()),
             Line::Start(start) => self.set_start(start),

@@ -23,7 +23,6 @@ pub(crate) struct Sizes {
 /// What a line says.
 #[derive(Drop)]
 pub(crate) enum Line {
-    Nothing,
     Places(u8),
     Step(u8, Vec<Yield>),
     Start(Vec<u32>),
@@ -38,11 +37,13 @@ pub(crate) enum Line {
 const STEP: &str = "step from P yields N at P, N at P, ..";
 
 /// What a line with these words says; a call gets memory of these sizes.
-pub(crate) fn read<'a>(alloc: Global, words: &[&'a str], sizes: Sizes) -> Result<Line, Fault<'a>> {
-    let Some((first, rest)) = words.split_first() else {
-        return Ok(Line::Nothing);
-    };
-    match *first {
+pub(crate) fn read<'a>(
+    alloc: Global,
+    first: &'a str,
+    rest: &[&'a str],
+    sizes: Sizes,
+) -> Result<Line, Fault<'a>> {
+    match first {
         "places" => Ok(Line::Places(only_number(rest, "places N")?)),
         "step" => step(alloc, rest),
         "start" => Ok(Line::Start(numbers_of(alloc, rest)?)),
@@ -50,7 +51,7 @@ pub(crate) fn read<'a>(alloc: Global, words: &[&'a str], sizes: Sizes) -> Result
         "fire" => Ok(Line::Call(Call::Fire(only_number(rest, "fire T")?))),
         "resume" => Ok(Line::Call(Call::Resume(request(alloc, rest, sizes.order)?))),
         "survey" => Ok(Line::Call(Call::Survey(request(alloc, rest, sizes.findings)?))),
-        _ => setting(*first, rest),
+        _ => setting(first, rest),
     }
 }
 
@@ -68,9 +69,7 @@ fn setting<'a>(first: &'a str, rest: &[&'a str]) -> Result<Line, Fault<'a>> {
 /// A renaming: what each place stands for; a place without a number stands for itself.
 fn renaming<'a>(alloc: Global, words: &[&'a str]) -> Result<Line, Fault<'a>> {
     let mut row = numbers_of(alloc, words)?;
-    for place in (0..=LAST_PLACE).skip(row.len()) {
-        row.push(place)?;
-    }
+    row.extend((0..=LAST_PLACE).skip(row.len()))?;
     Ok(Line::Rename(row))
 }
 

@@ -5,9 +5,9 @@ ghost use Rattle.schedules.specs.Shows.{Shows};
 ghost use Rattle.schedules.specs.Tables.{has_at, takes_in, leads_in, takers_in, Rebuilt, AllRebuilt, HoldsYields};
 ghost use Rattle.theory.specs.Rows.{at};
 
-use crate::schedule::{STEPS, Schedule};
+use crate::schedule::Schedule;
 use boards::board::PLACES;
-use nets::net::Net;
+use nets::net::{MOST_STEPS, Net};
 use place_sets::PlaceSet;
 use std::array;
 
@@ -19,7 +19,7 @@ fn input_of<N: Net>(net: &N, step: u16) -> u8
 }
 
 /// The input of each step; 0 past the last.
-fn inputs_of<N: Net>(net: &N) -> [u8; STEPS]
+fn inputs_of<N: Net>(net: &N) -> [u8; MOST_STEPS]
     ensures answer { (t : ℕ) → at result t ≡ (N.meaning net.now).net.input t }
     ensures inside { (t : ℕ) → at result t < 64 }
 {
@@ -34,7 +34,7 @@ fn yields_at<N: Net>(net: &N, step: u16) -> PlaceSet
 }
 
 /// The places at which each step yields.
-fn yields_of<N: Net>(net: &N) -> [PlaceSet; STEPS]
+fn yields_of<N: Net>(net: &N) -> [PlaceSet; MOST_STEPS]
     ensures { (t p : ℕ) → has_at result t p ≡ nat_lt 0 ((N.meaning net.now).net.yields t p) }
 {
     array::from_fn(|step| yields_at(net, step as u16))

@@ -3,6 +3,7 @@ ghost use Rattle.std.specs.Prelude.{◌≡◌, ℕ, ◌<◌, ◌≤◌, nat_lt};
 ghost use Rattle.theory.specs.Rows.{at};
 
 use boards::board::PLACES;
+use nets::net::MOST_STEPS;
 use place_sets::PlaceSet;
 
 /// The blocks (tokens) at each place, how often each step is still to be done, and where blocks
@@ -12,10 +13,10 @@ use place_sets::PlaceSet;
 pub struct Schedule {
     pub(crate) steps: u16,
     pub(crate) held: [u32; PLACES],
-    pub(crate) left: [u16; STEPS],
-    pub(crate) inputs: [u8; STEPS],
+    pub(crate) left: [u16; MOST_STEPS],
+    pub(crate) inputs: [u8; MOST_STEPS],
     /// Where each step yields.
-    pub(crate) yields: [PlaceSet; STEPS],
+    pub(crate) yields: [PlaceSet; MOST_STEPS],
     /// The places that hold a block.
     pub(crate) marked: PlaceSet,
     /// For each place, where the steps that are left and take there yield.
@@ -25,9 +26,6 @@ pub struct Schedule {
     ghost few_steps: { steps ≤ 128 },
     ghost inputs_inside: { (t : ℕ) → at inputs t < 64 },
 }
-
-/// How many steps a net has at most.
-pub(crate) const STEPS: usize = 128;
 
 impl Schedule {
     ghost use Rattle.place_sets.specs.Flags.{has};

@@ -14,6 +14,8 @@ pub struct NetTable {
     steps: u16,
     inputs: [u8; MOST_STEPS],
     yields: [[u8; MOST_PLACES]; MOST_STEPS],
+    // Six fields and not one with the whole law: that names a place where a step yields, so it may hold
+    // in several ways, and a ghost field in one way only.
     ghost some_place: { 1 ≤ places },
     ghost few_places: { places ≤ 64 },
     ghost few_steps: { steps ≤ 128 },
