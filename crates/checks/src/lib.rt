@@ -20,7 +20,8 @@ pub const DONE_LIMIT: u64 = 65535;
 /// The fewest findings that the memory of a survey holds: one of each cause at each of 64 places.
 pub const FINDINGS_NEEDED: usize = 192;
 
-/// What the marking is to be after an order: a number for each place, and a kind.
+/// What the marking is to be after an order: a number for each place, and a kind. The calls are lent the
+/// tally beside it, as their rules name them; a struct of both would be taken apart again in each function.
 #[derive(Clone, Copy)]
 pub struct Target<'a> {
     pub numbers: &'a [u32],

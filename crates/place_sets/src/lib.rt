@@ -21,7 +21,7 @@ impl Model for PlaceSet {
     ghost inverse = { λ w. record { word = w } };
 }
 
-/// How many places a set can hold, numbered from 0.
+/// How many places a set can hold, numbered from 0: as many as a word has flags.
 const PLACES: u8 = 64;
 
 impl PlaceSet {

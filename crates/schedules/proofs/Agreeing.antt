@@ -1,9 +1,7 @@
 -- Schedules with the same tables say the same, and a schedule says what the net and the tally that it shows say.
-use Rattle.std.proofs.Common.{◌≡◌, ℕ, ◌+◌, ◌<◌, Some, None, Option, unwrap_or, sym, ◌∙◌, subst, inl, inr, arith}
-use Rattle.std.proofs.lemmas.Bool.{cases_eq, cases_lt}
+use Rattle.std.proofs.Common.{◌≡◌, ℕ, ◌+◌, sym, ◌∙◌, subst, inl, inr, arith}
+use Rattle.std.proofs.lemmas.Bool.{cases_eq}
 use Rattle.theory.specs.Rows.{at}
-use Rattle.theory.specs.Nets.{LawfulNet}
-use Rattle.nets.specs.Answers.{InputIs}
 use Rattle.schedules.specs.declared.schedule.Schedule.{Schedule}
 use Rattle.schedules.specs.Tables.{has_at, leads_in, takers_in, SameElse, Rebuilt, AllRebuilt}
 
@@ -13,18 +11,6 @@ module _ (s s' : Schedule) (e : SameElse s s') where
 
   pub takers_same : (p : ℕ) → takers_in s' p ≡ takers_in s p
   takers_same p = simp (e.left, e.inputs, e.steps)
-
--- the input that a net answers, 0 where it has no such step
-pub input_or_0 : (L : LawfulNet) (t : ℕ) (o : Option ℕ) → InputIs L.net t o → unwrap_or o 0 ≡ L.net.input t
-input_or_0 L t None h = sym (L.law.no_input_outside_steps t h)
-input_or_0 L t (Some p) h = h.1
-
--- every input is a place below 64
-pub input_small : (L : LawfulNet) (t : ℕ) → L.net.input t < 64
-input_small L t = elim (cases_lt t L.net.steps) [
-  | inl l ↦ omega (arith, L.law.inputs_inside t l, L.law.few_places)
-  | inr h ↦ omega (arith, L.law.no_input_outside_steps t h)
-]
 
 -- one place after the other
 pub rebuilt_more : (s s' s'' : Schedule) (n : ℕ) → AllRebuilt s n s' → Rebuilt s' n s'' → AllRebuilt s (n + 1) s''

@@ -4,12 +4,13 @@ ghost use Rattle.sheets.specs.Parts.{fours, twos, below};
 ghost use Rattle.theory.specs.Rows.{at};
 
 use nets::bytes::{four_at, pair_at};
+use nets::net::{MOST_PLACES, MOST_STEPS};
 use std::array;
 
 // One generic function would be no plainer: it is handed the size, the reader and a zero, all for one line.
 
 /// So many four-byte numbers that begin at a byte, and zeros behind them.
-pub(crate) fn read_fours(sheet: &[u8], begin: usize, count: u8) -> [u32; 64]
+pub(crate) fn read_fours(sheet: &[u8], begin: usize, count: u8) -> [u32; MOST_PLACES]
     requires begin { begin < 2 ^ 20 }
     requires count { count ≤ 64 }
     ensures long { length result ≡ 64 }
@@ -22,7 +23,7 @@ pub(crate) fn read_fours(sheet: &[u8], begin: usize, count: u8) -> [u32; 64]
 }
 
 /// So many two-byte numbers that begin at a byte, and zeros behind them.
-pub(crate) fn read_twos(sheet: &[u8], begin: usize, count: u16) -> [u16; 128]
+pub(crate) fn read_twos(sheet: &[u8], begin: usize, count: u16) -> [u16; MOST_STEPS]
     requires begin { begin < 2 ^ 20 }
     requires count { count ≤ 128 }
     ensures long { length result ≡ 128 }

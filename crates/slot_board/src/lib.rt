@@ -20,7 +20,7 @@ pub const SLOTS: usize = 4096;
 const EMPTY: u8 = 0;
 
 // the most that a slot holds: the highest place and 1
-const HIGHEST: u8 = 64;
+const HIGHEST: u8 = LAST_PLACE + 1;
 
 /// A board that keeps each block in a slot: 0 for an empty slot, or the place of its block and 1.
 // clauses name the fields: under an `impl Model` the laws of a board stay open, which rest on the ghost fields

@@ -4,7 +4,8 @@ ghost use Rattle.table_law.proofs.TableLaw.{table_lawful};
 ghost use Rattle.table_law.specs.Tables.{cell, yields_somewhere, table_net};
 ghost use Rattle.theory.specs.Rows.{at};
 
-use crate::reads::{read_inputs, read_yields};
+use crate::reads::read_yields;
+use nets::inputs::inputs_of;
 use nets::net::{MOST_PLACES, MOST_STEPS, Net};
 
 /// The answers of a net: the input of each step, and a row of yields for each step.
@@ -12,6 +13,8 @@ use nets::net::{MOST_PLACES, MOST_STEPS, Net};
 pub struct NetTable {
     places: u8,
     steps: u16,
+    // Two rows by step and not one of structs: a struct for both would be no plainer, as the row of the
+    // inputs is read whole from the net.
     inputs: [u8; MOST_STEPS],
     yields: [[u8; MOST_PLACES]; MOST_STEPS],
     // Six fields and not one with the whole law: that names a place where a step yields, so it may hold
@@ -32,7 +35,7 @@ impl NetTable {
         NetTable {
             places: net.places(),
             steps: net.steps(),
-            inputs: read_inputs(net),
+            inputs: inputs_of(net),
             yields: read_yields(net),
         }
     }

@@ -1,17 +1,10 @@
-//! Reading the answers of a net into rows.
+//! Reading the yields of a net into rows.
 ghost use Rattle.std.specs.Prelude.{◌≡◌, ℕ, ◌<◌};
 ghost use Rattle.table_law.specs.Tables.{cell};
 ghost use Rattle.theory.specs.Rows.{at};
 
 use nets::net::{MOST_PLACES, MOST_STEPS, Net};
 use std::array;
-
-/// Reads the input of each step; 0 past the last.
-pub(crate) fn read_inputs<N: Net>(net: &N) -> [u8; MOST_STEPS]
-    ensures { (t : ℕ) → t < (N.meaning net.now).net.steps → at result t ≡ (N.meaning net.now).net.input t }
-{
-    array::from_fn(|step| net.input(step as u16).unwrap_or(0))
-}
 
 /// Reads the yields of a step at each place; zeros past the last place and the last step.
 fn read_row<N: Net>(net: &N, step: u16) -> [u8; MOST_PLACES]

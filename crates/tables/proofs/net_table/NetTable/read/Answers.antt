@@ -4,13 +4,13 @@ use Rattle.tables.proofs.net_table.NetTable.read.Given as given
 use Rattle.tables.proofs.net_table.NetTable.read.Goals as goal
 
 holds : (g : given.Over) (c : goal.After-read_yields g) →
-    Holds (g.N.Net.meaning c.args.net.now).net c.places.result c.steps.result c.read_inputs.result
+    Holds (g.N.Net.meaning c.args.net.now).net c.places.result c.steps.result c.inputs_of.result
     c.read_yields.result
 holds g c =
     record {
       places = c.places.ensures;
       steps = c.steps.ensures;
-      inputs = c.read_inputs.ensures;
+      inputs = λ t _. c.inputs_of.ensures.answer t;
       yields = c.read_yields.ensures;
     }
 
@@ -31,6 +31,6 @@ returns g c =
     same_net _ (g.N.Net.meaning c.args.net.now).law _ _ _ _ (record {
       places = c.places.ensures;
       steps = c.steps.ensures;
-      inputs = c.read_inputs.ensures;
+      inputs = λ t _. c.inputs_of.ensures.answer t;
       yields = c.read_yields.ensures;
     })

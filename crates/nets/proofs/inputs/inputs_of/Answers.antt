@@ -3,8 +3,8 @@ use Rattle.std.proofs.lemmas.List.{get_or_past}
 use Rattle.std.proofs.lemmas.Bool.{cases_lt}
 use Rattle.theory.proofs.Filled.{filled_at}
 use Rattle.theory.specs.Nets.{LawfulNet}
-use Rattle.schedules.proofs.Agreeing.{input_small}
-use Rattle.schedules.proofs.build.inputs_of.Goals as goal
+use Rattle.nets.proofs.InputLaws.{input_small}
+use Rattle.nets.proofs.inputs.inputs_of.Goals as goal
 
 pub returns-clause-answer : goal.returns-clause-answer
 returns-clause-answer g c t =
