@@ -8,14 +8,15 @@ use crate::net_file::NetFile;
 use crate::piles::SecondBoard;
 use crate::words::{code, words};
 use anyhow::anyhow;
+use checks::{DONE_LIMIT, FINDINGS_NEEDED};
 use handovers::sitting_calls::Call;
 use std::alloc::Global;
 
 /// How many entries memory has before a line says another number: as many as any order has, and as many
 /// as a survey asks for.
 const SIZES: Sizes = Sizes {
-    order: 65_535,
-    findings: 192,
+    order: DONE_LIMIT as u16,
+    findings: FINDINGS_NEEDED as u16,
 };
 
 /// What the lines of a file say.
@@ -26,7 +27,7 @@ pub(crate) struct Day<'a> {
     start: Option<Vec<u32>>,
     pub(crate) second: SecondBoard,
     pub(crate) sizes: Sizes,
-    /// The lines of the calls.
+    /// The lines of the calls; beside the calls and not with them, since a hand-over takes those alone.
     pub(crate) asked: Vec<&'a str>,
     pub(crate) calls: Vec<Call>,
 }

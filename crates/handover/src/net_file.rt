@@ -9,7 +9,8 @@ use std::alloc::{AllocError, Global};
 #[derive(Drop)]
 pub(crate) struct NetFile {
     places: u8,
-    // no more than a byte holds, which is above what a net may have
+    // Counted beside the rows, as the file has it: no more than a byte holds, which is above what a net may
+    // have. Rows of their own would have to be put together again at once.
     steps: u8,
     rows: Vec<u8>,
 }

@@ -83,6 +83,7 @@ fn turned_round() -> [u8; PLACES]
 fn lay_out<B: Board>(board: &mut B, start: &[u32]) -> Result<(), Refusal>
     ensures { OnOk result ((p : ℕ) → p < 64 → B.counts board.new p ≡ B.counts board.old p + at start.now p) }
 {
+    // By place and not along the start: the clause speaks of every place, past the start's end too.
     for place in 0..=LAST_PLACE {
         board.put(place, start.get(usize::from(place)).copied().unwrap_or(0))?;
     }
