@@ -1,11 +1,10 @@
 //! A board script: the piles that it makes, and the lines on each.
 use boards::board::{LAST_PLACE, PLACES};
 use calls::Call;
-use rows::numbers;
+use rows::{Fault, numbers, understood};
 use slot_board::SLOTS;
 use std::alloc::{AllocError, Global};
 use std::mem;
-use std::num::ParseIntError;
 
 /// What a new board holds.
 #[derive(Drop)]
@@ -36,43 +35,24 @@ pub(crate) struct Pile<'a> {
     pub(crate) lines: Vec<Line<'a>>,
 }
 
-/// Why a line is not read.
-#[derive(Drop)]
-enum Fault {
-    NotUnderstood,
-    Memory(AllocError),
-}
-
-impl From<ParseIntError> for Fault {
-    fn from(_error: ParseIntError) -> Fault {
-        Fault::NotUnderstood
-    }
-}
-
-impl From<AllocError> for Fault {
-    fn from(error: AllocError) -> Fault {
-        Fault::Memory(error)
-    }
-}
-
 /// The piles of a script; a line that loads a board begins the next one.
-pub(crate) fn piles(heap: Global, text: &str) -> Result<Vec<Pile<'_>>, AllocError> {
-    let mut piles = Vec::new(heap);
+pub(crate) fn piles(alloc: Global, text: &str) -> Result<Vec<Pile<'_>>, AllocError> {
+    let mut piles = Vec::new(alloc);
     let mut pile = Pile {
         load: None,
-        lines: Vec::new(heap),
+        lines: Vec::new(alloc),
     };
     for line in text.lines() {
         let code = code_of(line);
-        let words: Vec<&str> = code.split_whitespace().collect(heap)?;
-        if let Some(load) = understood(read_load(heap, words.as_slice()))? {
+        let words: Vec<&str> = code.split_whitespace().collect(alloc)?;
+        if let Some(load) = understood(read_load(alloc, words.as_slice()))? {
             let next = Pile {
                 load: Some((code, load)),
-                lines: Vec::new(heap),
+                lines: Vec::new(alloc),
             };
             piles.push(mem::replace(&mut pile, next))?;
         } else if !words.is_empty() {
-            let asked = understood(read_asked(heap, words.as_slice()))?;
+            let asked = understood(read_asked(alloc, words.as_slice()))?;
             pile.lines.push(Line { code, asked })?;
         }
     }
@@ -86,26 +66,17 @@ fn code_of(line: &str) -> &str {
     code.trim()
 }
 
-/// What was read; nothing where it was not understood.
-fn understood<T>(read: Result<T, Fault>) -> Result<Option<T>, AllocError> {
-    match read {
-        Ok(value) => Ok(Some(value)),
-        Err(Fault::NotUnderstood) => Ok(None),
-        Err(Fault::Memory(error)) => Err(error),
-    }
-}
-
 /// What a new board holds: the counts of the first places and the spare, or what the first slots hold;
 /// the others are empty.
-fn read_load(heap: Global, words: &[&str]) -> Result<Load, Fault> {
+fn read_load(alloc: Global, words: &[&str]) -> Result<Load, Fault> {
     match words {
         ["load", "count", counts @ .., "spare", spare] => {
-            let mut row = numbers::<u32, Fault>(heap, counts)?;
+            let mut row = numbers::<u32, Fault>(alloc, counts)?;
             row.resize(row.len().max(PLACES), 0)?;
             Ok(Load::Counts(row, spare.parse::<u32>()?))
         }
         ["load", "slots", slots @ ..] => {
-            let mut row = numbers::<u8, Fault>(heap, slots)?;
+            let mut row = numbers::<u8, Fault>(alloc, slots)?;
             row.resize(row.len().max(SLOTS), 0)?;
             Ok(Load::Slots(row))
         }
@@ -115,10 +86,10 @@ fn read_load(heap: Global, words: &[&str]) -> Result<Load, Fault> {
 
 /// What is asked of a pile. A renaming says what the first places stand for; the others stand for
 /// themselves.
-fn read_asked(heap: Global, words: &[&str]) -> Result<Asked, Fault> {
+fn read_asked(alloc: Global, words: &[&str]) -> Result<Asked, Fault> {
     let asked = match words {
         ["rename", places @ ..] => {
-            let mut row = numbers::<u8, Fault>(heap, places)?;
+            let mut row = numbers::<u8, Fault>(alloc, places)?;
             row.extend((0..=LAST_PLACE).skip(row.len()))?;
             Asked::Rename(row)
         }

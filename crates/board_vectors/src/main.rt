@@ -1,17 +1,18 @@
 //! Compares the boards and layers with a table of calls that another implementation answered.
 #![tactic(auto)]
 
+ghost use Rattle.std.specs.Prelude.{◌≤◌, length, IfOk, IfSome};
+
 mod asked;
 mod base;
 mod on_pile;
 mod table;
 
-use anyhow::{bail, ensure};
 use asked::read;
 use base::Base;
 use boards::count_board::CountBoard;
 use calls::Answer;
-use comparisons::comparison::Line;
+use comparisons::comparison::{Line, next_line};
 use on_pile::{Full, OnPile, Under};
 use slot_board::SlotBoard;
 use std::io;
@@ -23,52 +24,64 @@ fn main(rt: HostRuntime) -> anyhow::Result<()> {
     let text = io::read_to_string(rt.alloc(), rt.stdin())?;
     let lines: Vec<Line<'_>> = text.as_str().lines().map(Line::from).collect(rt.alloc())?;
     let mut table = Table::new(&rt);
-    for pile in lines
-        .as_slice()
-        .chunk_by(|_, next| !next.asked.starts_with("new "))
-    {
-        compare(&mut table, pile)?;
-    }
-    let agreed = table.comparison.agreed;
-    let differing = table.comparison.differing;
-    if differing > 0 {
-        println!(rt; "{differing} lines differ")?;
-    }
-    println!(rt; "{agreed} lines agree")?;
-    Ok(())
+    let left = compare_all(&mut table, lines.as_slice())?;
+    Ok(table.report(left)?)
 }
 
-/// Compares the lines of a pile, from the one that makes its board to the one at its bottom.
-fn compare(table: &mut Table<'_>, pile: &[Line<'_>]) -> anyhow::Result<()> {
-    let [new, lines @ .., bottom] = pile else {
-        bail!("a new board and no more");
-    };
-    ensure!(bottom.asked == "bottom", "a pile without its bottom");
-    match new.asked {
-        "new counts" => on_board(table, new, lines, bottom, CountBoard::new()),
-        "new slots" => on_board(table, new, lines, bottom, SlotBoard::new()),
-        asked => bail!("no new board: {asked}"),
+/// Compares the lines of one pile after the other, up to one that makes no board; answers how many are
+/// left from there on.
+fn compare_all(table: &mut Table<'_>, lines: &[Line<'_>]) -> anyhow::Result<usize> {
+    // a count and no slice: the borrow checker does not cover a loop whose slice is what a call gave
+    let mut left = lines.len();
+    while let [first, others @ ..] = &lines[lines.len() - left..] {
+        let Some(after) = compare(table, first, others)? else {
+            break;
+        };
+        left = after.len();
     }
+    Ok(left)
 }
 
-/// The loads of a new board, the lines on its pile, and what the board keeps in the end.
-fn on_board<B: Base + Drop>(
+/// Compares the lines of a pile and gives those that are left; nothing where the first makes no board.
+fn compare<'a>(
     table: &mut Table<'_>,
     new: &Line<'_>,
-    lines: &[Line<'_>],
-    bottom: &Line<'_>,
+    lines: &'a [Line<'a>],
+) -> anyhow::Result<Option<&'a [Line<'a>]>>
+    ensures { IfOk result (λ left. IfSome left (λ left. length left.now ≤ length lines.now)) }
+{
+    match new.asked {
+        "new counts" => Ok(Some(on_board(table, new, lines, CountBoard::new())?)),
+        "new slots" => Ok(Some(on_board(table, new, lines, SlotBoard::new())?)),
+        _ => Ok(None),
+    }
+}
+
+/// The loads of a new board, the lines on its pile, and what the board keeps in the end; gives the lines
+/// that are left.
+fn on_board<'a, B: Base + Drop>(
+    table: &mut Table<'_>,
+    new: &Line<'_>,
+    lines: &'a [Line<'a>],
     mut board: B,
-) -> anyhow::Result<()> {
+) -> anyhow::Result<&'a [Line<'a>]>
+    ensures { IfOk result (λ left. length left.now ≤ length lines.now) }
+{
     table.compare(new, &board, Answer::Accepted)?;
     let mut left = lines;
     while let [line, rest @ ..] = left {
-        let Some(done) = board.load_row(&read(table.heap(), line.asked)?) else {
+        let Some(asked) = read(table.alloc(), line.asked)? else {
+            break;
+        };
+        let Some(done) = board.load_row(&asked) else {
             break;
         };
         table.compare(line, &board, Answer::from(done))?;
         left = rest;
     }
-    let board = FourLayers::run(table, left, board)?;
+    let (board, left) = FourLayers::run(table, left, board)?;
+    let (bottom, left) = next_line(left);
     let kept = board.kept().value;
-    table.compare(bottom, &board, Answer::Number(kept))
+    table.compare(&bottom, &board, Answer::Number(kept))?;
+    Ok(left)
 }

@@ -1,7 +1,8 @@
 //! The lines on a pile: layers come over its board, up to four.
+ghost use Rattle.std.specs.Prelude.{◌≤◌, length, IfOk};
+
 use crate::asked::{Asked, read};
 use crate::table::Table;
-use anyhow::bail;
 use boards::board::Board;
 use calls::{Answer, perform};
 use comparisons::comparison::Line;
@@ -9,13 +10,15 @@ use layers::allowance::Allowance;
 use layers::renaming::Renaming;
 use std::marker::PhantomData;
 
-/// What a pile makes of the lines that are left, by how many layers it still takes; gives the board back.
+/// What a pile makes of lines, by how many layers it still takes; gives the board back, and the lines
+/// that are left.
 pub(crate) trait OnPile {
-    fn run<B: Board + Drop>(
+    fn run<'a, B: Board + Drop>(
         table: &mut Table<'_>,
-        lines: &[Line<'_>],
+        lines: &'a [Line<'a>],
         board: B,
-    ) -> anyhow::Result<B>;
+    ) -> anyhow::Result<(B, &'a [Line<'a>])>
+        ensures { IfOk result (λ done. length done.1.now ≤ length lines.now) };
 }
 
 /// A pile that takes no more layers.
@@ -24,50 +27,61 @@ pub(crate) struct Full;
 /// A pile that takes one more layer, over which it is like the parameter.
 pub(crate) struct Under<Above>(PhantomData<Above>);
 
-impl OnPile for Full {
-    fn run<B: Board + Drop>(
-        table: &mut Table<'_>,
-        lines: &[Line<'_>],
-        mut board: B,
-    ) -> anyhow::Result<B> {
-        for line in lines {
-            let Asked::Call(call) = read(table.heap(), line.asked)? else {
-                bail!("no call on a pile of four layers");
-            };
-            let answer = perform(&mut board, call);
-            table.compare(line, &board, answer)?;
+/// Makes the calls of lines up to one that is none; gives what that one asks for, and the lines from
+/// there on.
+fn calls_on<'a, B: Board>(
+    table: &mut Table<'_>,
+    lines: &'a [Line<'a>],
+    board: &mut B,
+) -> anyhow::Result<(Option<Asked>, &'a [Line<'a>])>
+    ensures { IfOk result (λ done. length done.1.now ≤ length lines.now) }
+{
+    let mut left = lines;
+    while let [line, rest @ ..] = left {
+        match read(table.alloc(), line.asked)? {
+            Some(Asked::Call(call)) => {
+                let answer = perform(board, call);
+                table.compare(line, board, answer)?;
+            }
+            other => return Ok((other, left)),
         }
-        Ok(board)
+        left = rest;
+    }
+    Ok((None, left))
+}
+
+impl OnPile for Full {
+    fn run<'a, B: Board + Drop>(
+        table: &mut Table<'_>,
+        lines: &'a [Line<'a>],
+        mut board: B,
+    ) -> anyhow::Result<(B, &'a [Line<'a>])> {
+        let (_, left) = calls_on(table, lines, &mut board)?;
+        Ok((board, left))
     }
 }
 
 impl<Above: OnPile> OnPile for Under<Above> {
-    fn run<B: Board + Drop>(
+    fn run<'a, B: Board + Drop>(
         table: &mut Table<'_>,
-        lines: &[Line<'_>],
+        lines: &'a [Line<'a>],
         mut board: B,
-    ) -> anyhow::Result<B> {
-        let mut left = lines.iter();
-        for line in left.by_ref() {
-            match read(table.heap(), line.asked)? {
-                Asked::Call(call) => {
-                    let answer = perform(&mut board, call);
-                    table.compare(line, &board, answer)?;
-                }
-                Asked::Rename(row) => {
-                    let mut layer = Renaming::new(board);
-                    let done = layer.load(row.as_slice());
-                    table.compare(line, &layer, Answer::from(done))?;
-                    return Ok(Above::run(table, left.as_slice(), layer)?.into_inner());
-                }
-                Asked::Allow(limit) => {
-                    let layer = Allowance::new(board, limit);
-                    table.compare(line, &layer, Answer::Accepted)?;
-                    return Ok(Above::run(table, left.as_slice(), layer)?.into_inner());
-                }
-                _ => bail!("a load on a pile"),
+    ) -> anyhow::Result<(B, &'a [Line<'a>])> {
+        match calls_on(table, lines, &mut board)? {
+            (Some(Asked::Rename(row)), [line, left @ ..]) => {
+                let mut layer = Renaming::new(board);
+                let done = layer.load(row.as_slice());
+                table.compare(line, &layer, Answer::from(done))?;
+                let (layer, left) = Above::run(table, left, layer)?;
+                Ok((layer.into_inner(), left))
             }
+            (Some(Asked::Allow(limit)), [line, left @ ..]) => {
+                let layer = Allowance::new(board, limit);
+                table.compare(line, &layer, Answer::Accepted)?;
+                let (layer, left) = Above::run(table, left, layer)?;
+                Ok((layer.into_inner(), left))
+            }
+            (_, left) => Ok((board, left)),
         }
-        Ok(board)
     }
 }

@@ -4,11 +4,12 @@ use calls::{Answer, all_counts};
 use comparisons::comparison::{Comparison, Line};
 use comparisons::digest::Digest;
 use std::alloc::Global;
+use std::io;
 
 #[derive(Drop)]
 pub(crate) struct Table<'a> {
     rt: &'a HostRuntime,
-    pub(crate) comparison: Comparison,
+    comparison: Comparison,
 }
 
 impl<'a> Table<'a> {
@@ -19,7 +20,7 @@ impl<'a> Table<'a> {
         }
     }
 
-    pub(crate) fn heap(&self) -> Global {
+    pub(crate) fn alloc(&self) -> Global {
         self.rt.alloc()
     }
 
@@ -34,10 +35,21 @@ impl<'a> Table<'a> {
         state.add_all(&all_counts(board));
         state.add(board.spare());
         let state = state.value;
-        let here = format!(in self.heap(); "{answer} {state}")?;
-        Ok(
-            self.comparison
-                .compare(self.rt, line.expected, here.as_str())?,
-        )
+        let here = format!(in self.alloc(); "{answer} {state}")?;
+        if !self.comparison.compare(line.expected, here.as_str()) {
+            let text = line.text;
+            let asked = line.asked;
+            println!(self.rt; "the table has {text}\nbut here it is {asked} = {here}")?;
+        }
+        Ok(())
+    }
+
+    /// Prints how many lines are left, if any, and how many agree.
+    pub(crate) fn report(&self, left: usize) -> io::Result<()> {
+        if left > 0 {
+            println!(self.rt; "{left} lines were not understood")?;
+        }
+        let agreed = self.comparison.agreed;
+        println!(self.rt; "{agreed} lines agree")
     }
 }

@@ -1,27 +1,27 @@
 //! The lines of a table, and how many of their answers agree.
-ghost use Rattle.std.specs.Prelude.{◌≡◌, ◌≢◌};
+ghost use Rattle.std.specs.Prelude.{◌≡◌, ◌≢◌, ◌<◌, ◌+◌, min, length, drop, [], ◌∷◌, true, false};
 ghost use Rattle.comparisons.specs.Counted.{one_more};
 ghost use Rattle.comparisons.specs.Sides.{HasSides};
 
-use std::io;
-
-/// How many differences are printed.
-const PRINTED: u32 = 20;
-
-/// A line of a table: what it asks for, and the answer that stands in it.
+/// A line of a table: all of it, what it asks for, and the answer that stands in it.
 #[derive(Clone, Copy)]
 pub struct Line<'a> {
+    pub text: &'a str,
     pub asked: &'a str,
     pub expected: &'a str,
 }
 
 impl<'a> From<&'a str> for Line<'a> {
-    ghost from_gives = { λ text line. HasSides text.now line.asked.now line.expected.now };
+    ghost from_gives = { λ text line. (line.text.now ≡ text.now) × HasSides text.now line.asked.now line.expected.now };
 
     /// The two sides of the first ` = `; no answer where there is none.
     fn from(text: &'a str) -> Line<'a> {
         let (asked, expected) = text.split_once(" = ").unwrap_or((text, ""));
-        Line { asked, expected }
+        Line {
+            text,
+            asked,
+            expected,
+        }
     }
 }
 
@@ -32,21 +32,37 @@ pub struct Comparison {
     pub differing: u32,
 }
 
+/// The next line and those after it; an empty line where none is left.
+pub fn next_line<'a>(lines: &'a [Line<'a>]) -> (Line<'a>, &'a [Line<'a>])
+    ensures first { 0 < length lines.now → lines.now ≡ result.0 ∷ result.1.now }
+    ensures empty { lines.now ≡ [] → result.0.text.now ≡ [] }
+    ensures others { result.1.now ≡ drop 1 lines.now }
+{
+    match lines {
+        [line, left @ ..] => (*line, left),
+        [] => (Line::from(""), lines),
+    }
+}
+
 impl Comparison {
-    /// Compares the answer in the next line of the table with the one here; prints the first that differ.
-    pub fn compare(&mut self, rt: &impl Print, expected: &str, here: &str) -> io::Result<()>
-        ensures same { here.now ≡ expected.now → self.new ≡ record self.old { agreed = one_more self.old.agreed } }
-        ensures other { here.now ≢ expected.now → self.new ≡ record self.old { differing = one_more self.old.differing } }
+    /// Counts a line of the table by whether the answer in it is the one here, and says whether it is.
+    pub fn compare(&mut self, expected: &str, here: &str) -> bool
+        ensures same { here.now ≡ expected.now → (result ≡ true) × (self.new ≡ record self.old { agreed = one_more self.old.agreed }) }
+        ensures other { here.now ≢ expected.now → (result ≡ false) × (self.new ≡ record self.old { differing = one_more self.old.differing }) }
     {
-        if here == expected {
+        let is_same = here == expected;
+        if is_same {
             self.agreed = self.agreed.saturating_add(1);
-            return Ok(());
+        } else {
+            self.differing = self.differing.saturating_add(1);
         }
-        self.differing = self.differing.saturating_add(1);
-        if self.differing > PRINTED {
-            return Ok(());
-        }
-        let line = self.agreed.saturating_add(self.differing);
-        println!(rt; "line {line}: the table has {expected}, but here it is {here}")
+        is_same
+    }
+
+    /// How many lines were compared.
+    pub fn compared(&self) -> u32
+        ensures { result ≡ min (self.now.agreed + self.now.differing) 4294967295 }
+    {
+        self.agreed.saturating_add(self.differing)
     }
 }

@@ -47,11 +47,11 @@ impl fmt::Display for Outcomes {
 
 impl Refused {
     /// No call yet.
-    pub fn new(heap: Global) -> Refused
+    pub fn new(alloc: Global) -> Refused
         ensures { (n : ℕ) → count_at result.counts n ≡ 0 }
     {
         Refused {
-            counts: BTreeMap::new(heap),
+            counts: BTreeMap::new(alloc),
         }
     }
 
@@ -61,14 +61,22 @@ impl Refused {
         ensures others { OnOk result ((n : ℕ) → n ≢ number_of refusal → count_at self.new.counts n ≡ count_at self.old.counts n) }
     {
         let number = refusal.number();
-        let count = self.counts.get(&number).copied().unwrap_or(0);
+        let count = self.count(number);
         self.counts.insert(number, count.saturating_add(1))?;
         Ok(())
     }
 
-    /// Prints a line for each number.
-    pub fn print(&self, rt: &impl Print) -> io::Result<()> {
-        for (number, count) in &self.counts {
+    /// How many calls were refused with the number.
+    pub fn count(&self, number: u8) -> u32
+        ensures { result ≡ count_at self.now.counts number }
+    {
+        self.counts.get(&number).copied().unwrap_or(0)
+    }
+
+    /// Prints a line for each of the numbers.
+    pub fn print(&self, rt: &impl Print, numbers: &[u8]) -> io::Result<()> {
+        for number in numbers {
+            let count = self.count(*number);
             println!(rt; "refusal {number}: {count}")?;
         }
         Ok(())

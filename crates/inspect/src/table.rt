@@ -5,8 +5,8 @@ use std::fmt::Write;
 use std::io;
 
 /// The yields of a step in words, as `1 at 2, 3 at 5`.
-fn yields<N: Net>(heap: Global, net: &N, step: u16) -> Result<String, AllocError> {
-    let mut text = String::new(heap);
+fn yields<N: Net>(alloc: Global, net: &N, step: u16) -> Result<String, AllocError> {
+    let mut text = String::new(alloc);
     for place in 0..net.places() {
         let blocks = net.yield_at(step, place);
         if blocks > 0 {

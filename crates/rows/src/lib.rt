@@ -3,16 +3,54 @@
 
 ghost use Rattle.std.specs.Prelude.{◌≡◌, ◌⊎◌, codes, length, IfOk};
 ghost use Rattle.hex.specs.Hex.{decode_of};
+ghost use Rattle.rows.specs.Faults.{understood_of};
 ghost use Rattle.rows.specs.Slots.{slots_of};
+ghost use Rattle.rows.specs.declared.Fault.{Fault};
+ghost use Rattle.rows.specs.declared.Fault.TheVariants.{NotUnderstood, Memory};
 
 use anyhow::ensure;
 use std::alloc::{AllocError, Global};
 use std::iter::repeat_n;
+use std::num::ParseIntError;
 use std::str::FromStr;
+
+/// Why words are not read.
+#[derive(Drop)]
+pub enum Fault {
+    NotUnderstood,
+    Memory(AllocError),
+}
+
+impl From<ParseIntError> for Fault {
+    ghost from_gives = { λ error fault. fault ≡ NotUnderstood };
+
+    fn from(_error: ParseIntError) -> Fault {
+        Fault::NotUnderstood
+    }
+}
+
+impl From<AllocError> for Fault {
+    ghost from_gives = { λ error fault. fault ≡ Memory error };
+
+    fn from(error: AllocError) -> Fault {
+        Fault::Memory(error)
+    }
+}
+
+/// What was read; nothing where it was not understood.
+pub fn understood<T>(read: Result<T, Fault>) -> Result<Option<T>, AllocError>
+    ensures { result ≡ understood_of read }
+{
+    match read {
+        Ok(value) => Ok(Some(value)),
+        Err(Fault::NotUnderstood) => Ok(None),
+        Err(Fault::Memory(error)) => Err(error),
+    }
+}
 
 /// The words as numbers; an error where one of them is none.
 pub fn numbers<T: FromStr + Drop, E: From<T::Err> + From<AllocError> + Drop>(
-    heap: Global,
+    alloc: Global,
     words: &[&str],
 ) -> Result<Vec<T>, E>
     ensures { IfOk result (λ all. length all.items ≡ length words.now) }
@@ -20,30 +58,30 @@ pub fn numbers<T: FromStr + Drop, E: From<T::Err> + From<AllocError> + Drop>(
     words
         .iter()
         .map(|word| -> Result<T, E> { Ok(word.parse::<T>()?) })
-        .try_collect(heap)
+        .try_collect(alloc)
 }
 
 /// The bytes of a file that hexadecimal digits write down; none for `-`.
-pub fn file_of(heap: Global, digits: &str) -> anyhow::Result<Vec<u8>>
+pub fn file_of(alloc: Global, digits: &str) -> anyhow::Result<Vec<u8>>
     ensures { IfOk result (λ file. (digits.now ≡ codes "-") ⊎ (decode_of digits.now ≡ Ok file.items)) }
 {
     if digits == "-" {
-        return Ok(Vec::new(heap));
+        return Ok(Vec::new(alloc));
     }
-    Ok(hex::decode(heap, digits)?)
+    Ok(hex::decode(alloc, digits)?)
 }
 
 /// The slots of runs, each a length and what its slots hold.
-pub fn slots_of(heap: Global, runs: &[u32]) -> anyhow::Result<Vec<u8>>
+pub fn slots_of(alloc: Global, runs: &[u32]) -> anyhow::Result<Vec<u8>>
     ensures { IfOk result (λ slots. slots.items ≡ slots_of runs.now) }
 {
-    let mut slots = Vec::new(heap);
+    let mut slots = Vec::new(alloc);
     let mut left = runs;
     while let [length, held, rest @ ..] = left {
         let held = u8::try_from(*held)?;
         slots.extend(repeat_n(held, usize::try_from(*length)?))?;
         left = rest;
     }
-    ensure!(left.is_empty(), "a run without what its slots hold");
+    ensure!(left.is_empty(), "an odd number of numbers");
     Ok(slots)
 }

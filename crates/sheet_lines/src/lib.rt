@@ -5,18 +5,15 @@ ghost use Rattle.std.specs.Prelude.{◌≡◌, IfOk, OnOk};
 ghost use Rattle.sheets.specs.Verdicts.{sheet_line, Judged};
 
 use anyhow::anyhow;
-use sheets::judge;
+use sheets::{LONGEST_LINE, judge};
 use std::alloc::Global;
 
-/// The longest line: `ok`, 4,096 steps of three digits, each after a space, and the line's end.
-const LONGEST_LINE: usize = 16387;
-
 /// The line of a sheet, with its end.
-pub fn line_of(heap: Global, sheet: &[u8]) -> anyhow::Result<Vec<u8>>
+pub fn line_of(alloc: Global, sheet: &[u8]) -> anyhow::Result<Vec<u8>>
     ensures line { IfOk result (λ line. line.items ≡ sheet_line sheet.now) }
     ensures verdict { OnOk result (Judged sheet.now (sheet_line sheet.now)) }
 {
-    let mut line = vec![in heap; 0u8; LONGEST_LINE]?;
+    let mut line = vec![in alloc; 0u8; LONGEST_LINE]?;
     let Ok(length) = judge(sheet, line.as_mut_slice()) else {
         return Err(anyhow!("a line is longer than any can be"));
     };

@@ -8,7 +8,7 @@ use rows::file_of;
 use sheet_lines::line_of;
 use std::io::{BufRead, BufReader};
 
-/// Compares one line of the table with the line of its sheet.
+/// Compares one line of the table with the line of its sheet, and prints it where it differs.
 fn compare(rt: &HostRuntime, comparison: &mut Comparison, line: &str) -> anyhow::Result<()> {
     let Some((digits, expected)) = line.split_once(' ') else {
         return Err(anyhow!("a line without two words"));
@@ -18,7 +18,11 @@ fn compare(rt: &HostRuntime, comparison: &mut Comparison, line: &str) -> anyhow:
     let Some(here) = here.as_str().strip_suffix('\n') else {
         return Err(anyhow!("a sheet's line without its end"));
     };
-    Ok(comparison.compare(rt, expected, here)?)
+    let number = comparison.compared();
+    if !comparison.compare(expected, here) {
+        println!(rt; "sheet {number} should have: {expected}")?;
+    }
+    Ok(())
 }
 
 fn main(rt: HostRuntime) -> anyhow::Result<()> {
@@ -26,8 +30,8 @@ fn main(rt: HostRuntime) -> anyhow::Result<()> {
     for line in BufReader::new(rt.alloc(), rt.stdin())?.lines(rt.alloc()) {
         compare(&rt, &mut comparison, line?.as_str())?;
     }
+    let sheets = comparison.compared();
     let differences = comparison.differing;
-    let sheets = comparison.agreed.saturating_add(differences);
     println!(rt; "{sheets} sheets, {differences} differences")?;
     Ok(())
 }

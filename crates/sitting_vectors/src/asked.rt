@@ -3,6 +3,8 @@ use anyhow::bail;
 use boards::board::PLACES;
 use rows::{file_of, numbers, slots_of};
 use std::alloc::Global;
+use std::num::ParseIntError;
+use std::str::FromStr;
 
 /// What a resume or a survey is given, and how long its memory is.
 #[derive(Drop)]
@@ -21,42 +23,52 @@ pub(crate) enum Asked {
     Slots(Vec<u8>),
     Rename(Vec<u8>),
     Allow(u32),
-    Sit,
     Fire(u16),
     Resume(Request),
     Survey(Request),
 }
 
-/// Reads what a line asks for: a word, and what belongs to it.
-pub(crate) fn read(heap: Global, asked: &str) -> anyhow::Result<Asked> {
-    let words: Vec<&str> = asked.split_whitespace().collect(heap)?;
-    let asked = match words.as_slice() {
-        ["net", "grid", digits] => Asked::Grid(file_of(heap, digits)?),
-        ["net", "chained", digits] => Asked::Chained(file_of(heap, digits)?),
-        ["counts", spare, counts @ ..] => {
-            let mut row = numbers::<u32, anyhow::Error>(heap, counts)?;
-            row.resize(PLACES, 0)?;
-            Asked::Counts(row, spare.parse::<u32>()?)
-        }
-        ["slots", runs @ ..] => {
-            let runs = numbers::<u32, anyhow::Error>(heap, runs)?;
-            Asked::Slots(slots_of(heap, runs.as_slice())?)
-        }
-        ["rename", row @ ..] => Asked::Rename(numbers::<u8, anyhow::Error>(heap, row)?),
-        ["allow", left] => Asked::Allow(left.parse::<u32>()?),
-        ["sit"] => Asked::Sit,
-        ["fire", step] => Asked::Fire(step.parse::<u16>()?),
-        ["resume", request @ ..] => Asked::Resume(request_of(heap, request)?),
-        ["survey", request @ ..] => Asked::Survey(request_of(heap, request)?),
-        _ => bail!("a line that is not understood: {asked}"),
+/// Reads what a line asks for: a word, and what belongs to it; nothing where it is not understood.
+pub(crate) fn read(alloc: Global, asked: &str) -> anyhow::Result<Option<Asked>> {
+    let (word, rest) = asked.split_once(' ').unwrap_or((asked, ""));
+    let asked = match word {
+        "net" => return net_of(alloc, rest),
+        "counts" => return counts_of(alloc, rest),
+        "slots" => Asked::Slots(slots_of(alloc, row_of::<u32>(alloc, rest)?.as_slice())?),
+        "rename" => Asked::Rename(row_of::<u8>(alloc, rest)?),
+        "allow" => Asked::Allow(rest.parse::<u32>()?),
+        "fire" => Asked::Fire(rest.parse::<u16>()?),
+        "resume" => Asked::Resume(request_of(alloc, rest)?),
+        "survey" => Asked::Survey(request_of(alloc, rest)?),
+        _ => return Ok(None),
     };
-    Ok(asked)
+    Ok(Some(asked))
+}
+
+/// A net file, of either make.
+fn net_of(alloc: Global, rest: &str) -> anyhow::Result<Option<Asked>> {
+    match rest.split_once(' ') {
+        Some(("grid", digits)) => Ok(Some(Asked::Grid(file_of(alloc, digits)?))),
+        Some(("chained", digits)) => Ok(Some(Asked::Chained(file_of(alloc, digits)?))),
+        _ => Ok(None),
+    }
+}
+
+/// A spare, and counts that are 0 where the line has none.
+fn counts_of(alloc: Global, rest: &str) -> anyhow::Result<Option<Asked>> {
+    let row = row_of::<u32>(alloc, rest)?;
+    let [spare, counts @ ..] = row.as_slice() else {
+        return Ok(None);
+    };
+    let mut counts = counts.to_vec(alloc)?;
+    counts.resize(PLACES, 0)?;
+    Ok(Some(Asked::Counts(counts, *spare)))
 }
 
 /// Memory, tally, kind and target, with strokes between them.
-fn request_of(heap: Global, words: &[&str]) -> anyhow::Result<Request> {
-    let mut parts = words.split(|word| *word == "/");
-    let (Some([memory]), Some(tally), Some([kind]), Some(target)) = (
+fn request_of(alloc: Global, rest: &str) -> anyhow::Result<Request> {
+    let mut parts = rest.split('/');
+    let (Some(memory), Some(tally), Some(kind), Some(target)) = (
         parts.next(),
         parts.next(),
         parts.next(),
@@ -65,9 +77,18 @@ fn request_of(heap: Global, words: &[&str]) -> anyhow::Result<Request> {
         bail!("a request without four parts");
     };
     Ok(Request {
-        memory: memory.parse::<usize>()?,
-        tally: numbers::<u16, anyhow::Error>(heap, tally)?,
-        kind: kind.parse::<u8>()?,
-        target: numbers::<u32, anyhow::Error>(heap, target)?,
+        memory: memory.trim().parse::<usize>()?,
+        tally: row_of::<u16>(alloc, tally)?,
+        kind: kind.trim().parse::<u8>()?,
+        target: row_of::<u32>(alloc, target)?,
     })
+}
+
+/// The numbers of a row.
+fn row_of<T: FromStr<Err = ParseIntError> + Drop>(
+    alloc: Global,
+    text: &str,
+) -> anyhow::Result<Vec<T>> {
+    let words: Vec<&str> = text.split_whitespace().collect(alloc)?;
+    numbers::<T, anyhow::Error>(alloc, words.as_slice())
 }

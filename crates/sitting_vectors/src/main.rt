@@ -1,17 +1,19 @@
 //! Compares sittings with a table of calls that another implementation answered.
 #![tactic(auto)]
 
+ghost use Rattle.std.specs.Prelude.{◌≤◌, length, IfOk, IfSome};
+
 mod asked;
 mod on_pile;
 mod performed;
 mod summary;
 mod table;
 
-use anyhow::{bail, ensure};
+use anyhow::bail;
 use asked::{Asked, read};
 use boards::count_board::CountBoard;
 use calls::{Answer, all_counts};
-use comparisons::comparison::Line;
+use comparisons::comparison::{Line, next_line};
 use comparisons::digest::Digest;
 use nets::chained::ChainedNet;
 use nets::grid::GridNet;
@@ -28,67 +30,131 @@ fn main(rt: HostRuntime) -> anyhow::Result<()> {
     let text = io::read_to_string(rt.alloc(), rt.stdin())?;
     let lines: Vec<Line<'_>> = text.as_str().lines().map(Line::from).collect(rt.alloc())?;
     let mut table = Table::new(&rt);
-    for part in lines
-        .as_slice()
-        .chunk_by(|_, next| !next.asked.starts_with("net "))
-    {
-        compare(&mut table, part)?;
-    }
-    Ok(table.report()?)
+    let left = compare_all(&mut table, lines.as_slice())?;
+    Ok(table.report(left)?)
 }
 
-/// Compares the lines of one net, from its file on.
-fn compare(table: &mut Table<'_>, lines: &[Line<'_>]) -> anyhow::Result<()> {
-    let Some((line, left)) = lines.split_first() else {
-        return Ok(());
-    };
-    match read(table.heap(), line.asked)? {
-        Asked::Grid(file) => on_file::<GridNet>(table, line, left, file.as_slice()),
-        Asked::Chained(file) => on_file::<ChainedNet>(table, line, left, file.as_slice()),
-        _ => bail!("no net file"),
+/// Compares the lines of one net after the other, up to one that is no net file; answers how many are
+/// left from there on.
+fn compare_all(table: &mut Table<'_>, lines: &[Line<'_>]) -> anyhow::Result<usize> {
+    // a count and no slice: the borrow checker does not cover a loop whose slice is what a call gave
+    let mut left = lines.len();
+    while let [first, others @ ..] = &lines[lines.len() - left..] {
+        let Some(after) = compare(table, first, others)? else {
+            break;
+        };
+        left = after.len();
     }
+    Ok(left)
 }
 
-fn on_file<'a, N: Net + TryFrom<&'a [u8], Error = Refusal> + Drop>(
+/// Compares the lines of one net and gives those that are left; nothing where the first is no net file.
+fn compare<'a>(
     table: &mut Table<'_>,
     line: &Line<'_>,
-    left: &[Line<'_>],
-    file: &'a [u8],
-) -> anyhow::Result<()> {
+    lines: &'a [Line<'a>],
+) -> anyhow::Result<Option<&'a [Line<'a>]>>
+    ensures { IfOk result (λ left. IfSome left (λ left. length left.now ≤ length lines.now)) }
+{
+    match read(table.alloc(), line.asked)? {
+        Some(Asked::Grid(file)) => {
+            Ok(Some(on_file::<GridNet>(table, line, lines, file.as_slice())?))
+        }
+        Some(Asked::Chained(file)) => {
+            Ok(Some(on_file::<ChainedNet>(table, line, lines, file.as_slice())?))
+        }
+        _ => Ok(None),
+    }
+}
+
+/// The line of a net file, and those of its sitting if it is accepted; gives the lines that are left.
+fn on_file<'a, 'f, N: Net + TryFrom<&'f [u8], Error = Refusal> + Drop>(
+    table: &mut Table<'_>,
+    line: &Line<'_>,
+    lines: &'a [Line<'a>],
+    file: &'f [u8],
+) -> anyhow::Result<&'a [Line<'a>]>
+    ensures { IfOk result (λ left. length left.now ≤ length lines.now) }
+{
     match N::try_from(file) {
         Ok(net) => {
             table.compare(line, Answer::Accepted)?;
-            on_net(table, left, net)
+            on_net(table, lines, net)
         }
         Err(refusal) => {
-            ensure!(left.is_empty(), "a board for a net that is refused");
             table.totals.refuse_file();
-            table.compare(line, Answer::Refused(refusal))
+            table.compare(line, Answer::Refused(refusal))?;
+            Ok(lines)
         }
     }
 }
 
-/// The sitting on the board that comes next, which is compared at the end.
-fn on_net<N: Net + Drop>(table: &mut Table<'_>, lines: &[Line<'_>], net: N) -> anyhow::Result<()> {
-    let [load, lines @ .., bottom] = lines else {
+/// The sitting on the board that comes next; gives the lines that are left.
+fn on_net<'a, N: Net + Drop>(
+    table: &mut Table<'_>,
+    lines: &'a [Line<'a>],
+    net: N,
+) -> anyhow::Result<&'a [Line<'a>]>
+    ensures { IfOk result (λ left. length left.now ≤ length lines.now) }
+{
+    let [load, left @ ..] = lines else {
         bail!("a net without a board");
     };
-    ensure!(bottom.asked == "bottom", "a sitting without its bottom");
-    let mut digest = Digest::new();
-    match read(table.heap(), load.asked)? {
-        Asked::Counts(row, spare) => {
-            let mut board = CountBoard::new();
-            let done = board.load(row.as_slice(), spare);
-            table.compare(load, Answer::from(done))?;
-            digest.add_all(&all_counts(&TwoLayers::run(table, lines, net, board)?));
+    match read(table.alloc(), load.asked)? {
+        Some(Asked::Counts(row, spare)) => {
+            on_counts(table, load, left, net, row.as_slice(), spare)
         }
-        Asked::Slots(row) => {
-            let mut board = SlotBoard::new();
-            let done = board.load(row.as_slice());
-            table.compare(load, Answer::from(done))?;
-            digest.add_all(TwoLayers::run(table, lines, net, board)?.slots());
-        }
+        Some(Asked::Slots(row)) => { on_slots(table, load, left, net, row.as_slice()) }
         _ => bail!("a net without a board"),
     }
-    table.compare(bottom, Answer::Number(digest.value))
+}
+
+/// The sitting on a count board, whose counts are compared at the end; gives the lines that are left.
+fn on_counts<'a, N: Net + Drop>(
+    table: &mut Table<'_>,
+    load: &Line<'_>,
+    lines: &'a [Line<'a>],
+    net: N,
+    row: &[u32],
+    spare: u32,
+) -> anyhow::Result<&'a [Line<'a>]>
+    ensures { IfOk result (λ left. length left.now ≤ length lines.now) }
+{
+    let mut board = CountBoard::new();
+    let done = board.load(row, spare);
+    table.compare(load, Answer::from(done))?;
+    let (board, left) = TwoLayers::run(table, lines, net, board)?;
+    compare_kept(table, left, &all_counts(&board))
+}
+
+/// The sitting on a slot board, whose slots are compared at the end; gives the lines that are left.
+fn on_slots<'a, N: Net + Drop>(
+    table: &mut Table<'_>,
+    load: &Line<'_>,
+    lines: &'a [Line<'a>],
+    net: N,
+    row: &[u8],
+) -> anyhow::Result<&'a [Line<'a>]>
+    ensures { IfOk result (λ left. length left.now ≤ length lines.now) }
+{
+    let mut board = SlotBoard::new();
+    let done = board.load(row);
+    table.compare(load, Answer::from(done))?;
+    let (board, left) = TwoLayers::run(table, lines, net, board)?;
+    compare_kept(table, left, board.slots())
+}
+
+/// Compares what a board keeps with the next line; gives the lines that are left.
+fn compare_kept<'a, T: Copy + Into<u32>>(
+    table: &mut Table<'_>,
+    lines: &'a [Line<'a>],
+    kept: &[T],
+) -> anyhow::Result<&'a [Line<'a>]>
+    ensures { IfOk result (λ left. length left.now ≤ length lines.now) }
+{
+    let (bottom, left) = next_line(lines);
+    let mut digest = Digest::new();
+    digest.add_all(kept);
+    table.compare(&bottom, Answer::Number(digest.value))?;
+    Ok(left)
 }

@@ -1,8 +1,9 @@
 //! The lines on a pile: layers come over its board, up to two, and then a sitting.
+ghost use Rattle.std.specs.Prelude.{◌≤◌, length, IfOk};
+
 use crate::asked::{Asked, read};
 use crate::performed::sit;
 use crate::table::Table;
-use anyhow::bail;
 use boards::board::Board;
 use calls::Answer;
 use comparisons::comparison::Line;
@@ -11,14 +12,16 @@ use layers::renaming::Renaming;
 use nets::net::Net;
 use std::marker::PhantomData;
 
-/// What a pile makes of the lines that are left, by how many layers it still takes; gives the board back.
+/// What a pile makes of lines, by how many layers it still takes; gives the board back, and the lines
+/// that are left.
 pub(crate) trait OnPile {
-    fn run<N: Net + Drop, B: Board + Drop>(
+    fn run<'a, N: Net + Drop, B: Board + Drop>(
         table: &mut Table<'_>,
-        lines: &[Line<'_>],
+        lines: &'a [Line<'a>],
         net: N,
         board: B,
-    ) -> anyhow::Result<B>;
+    ) -> anyhow::Result<(B, &'a [Line<'a>])>
+        ensures { IfOk result (λ done. length done.1.now ≤ length lines.now) };
 }
 
 /// A pile that takes no more layers.
@@ -28,37 +31,39 @@ pub(crate) struct Full;
 pub(crate) struct Under<Above>(PhantomData<Above>);
 
 impl OnPile for Full {
-    fn run<N: Net + Drop, B: Board + Drop>(
+    fn run<'a, N: Net + Drop, B: Board + Drop>(
         table: &mut Table<'_>,
-        lines: &[Line<'_>],
+        lines: &'a [Line<'a>],
         net: N,
         board: B,
-    ) -> anyhow::Result<B> {
+    ) -> anyhow::Result<(B, &'a [Line<'a>])> {
         sit(table, lines, net, board)
     }
 }
 
 impl<Above: OnPile> OnPile for Under<Above> {
-    fn run<N: Net + Drop, B: Board + Drop>(
+    fn run<'a, N: Net + Drop, B: Board + Drop>(
         table: &mut Table<'_>,
-        lines: &[Line<'_>],
+        lines: &'a [Line<'a>],
         net: N,
         board: B,
-    ) -> anyhow::Result<B> {
-        let Some((line, left)) = lines.split_first() else {
-            bail!("a pile without a sitting");
+    ) -> anyhow::Result<(B, &'a [Line<'a>])> {
+        let [line, left @ ..] = lines else {
+            return sit(table, lines, net, board);
         };
-        match read(table.heap(), line.asked)? {
-            Asked::Rename(row) => {
+        match read(table.alloc(), line.asked)? {
+            Some(Asked::Rename(row)) => {
                 let mut layer = Renaming::new(board);
                 let done = layer.load(row.as_slice());
                 table.compare(line, Answer::from(done))?;
-                Ok(Above::run(table, left, net, layer)?.into_inner())
+                let (layer, left) = Above::run(table, left, net, layer)?;
+                Ok((layer.into_inner(), left))
             }
-            Asked::Allow(limit) => {
+            Some(Asked::Allow(limit)) => {
                 let layer = Allowance::new(board, limit);
                 table.compare(line, Answer::Accepted)?;
-                Ok(Above::run(table, left, net, layer)?.into_inner())
+                let (layer, left) = Above::run(table, left, net, layer)?;
+                Ok((layer.into_inner(), left))
             }
             _ => sit(table, lines, net, board),
         }

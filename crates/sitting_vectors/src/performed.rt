@@ -1,37 +1,44 @@
 //! The calls of a sitting, made with memory that is filled beforehand, and compared with the table.
+ghost use Rattle.std.specs.Prelude.{◌≤◌, length, IfOk};
+
 use crate::asked::{Asked, Request, read};
 use crate::table::Table;
 use answers::{Cause, Finding};
-use anyhow::bail;
 use boards::board::Board;
 use calls::{Answer, all_counts};
 use checks::Target;
-use comparisons::comparison::Line;
+use comparisons::comparison::{Line, next_line};
 use comparisons::digest::Digest;
 use nets::net::Net;
 use refusals::Refusal;
 use sittings::sitting::Sitting;
 use std::alloc::{AllocError, Global};
 
-/// All lines of a sitting, from the one that begins it to the last call; gives the board back.
-pub(crate) fn sit<N: Net + Drop, B: Board + Drop>(
+/// All lines of a sitting, from the one that begins it to the last call; gives the board back, and the
+/// lines that are left.
+pub(crate) fn sit<'a, N: Net + Drop, B: Board + Drop>(
     table: &mut Table<'_>,
-    lines: &[Line<'_>],
+    lines: &'a [Line<'a>],
     net: N,
     board: B,
-) -> anyhow::Result<B> {
+) -> anyhow::Result<(B, &'a [Line<'a>])>
+    ensures { IfOk result (λ done. length done.1.now ≤ length lines.now) }
+{
     let mut sitting = Sitting::new(net, board);
-    for line in lines {
-        match read(table.heap(), line.asked)? {
-            Asked::Sit => begin(table, line, &sitting)?,
-            Asked::Fire(step) => fire(table, line, &mut sitting, step)?,
-            Asked::Resume(request) => resume(table, line, &mut sitting, &request)?,
-            Asked::Survey(request) => survey(table, line, &sitting, &request)?,
-            _ => bail!("no call of a sitting"),
+    let (begin, mut left) = next_line(lines);
+    table.totals.begin();
+    table.compare_state(&begin, Answer::Accepted, digest_of(&sitting))?;
+    while let [line, rest @ ..] = left {
+        match read(table.alloc(), line.asked)? {
+            Some(Asked::Fire(step)) => fire(table, line, &mut sitting, step)?,
+            Some(Asked::Resume(request)) => resume(table, line, &mut sitting, &request)?,
+            Some(Asked::Survey(request)) => survey(table, line, &sitting, &request)?,
+            _ => break,
         }
+        left = rest;
     }
     let (_, board, _) = sitting.into_parts();
-    Ok(board)
+    Ok((board, left))
 }
 
 /// The counts, the spare and the done row.
@@ -41,15 +48,6 @@ fn digest_of<N: Net, B: Board>(sitting: &Sitting<N, B>) -> Digest {
     digest.add(sitting.board().spare());
     digest.add_all(sitting.done());
     digest
-}
-
-fn begin<N: Net, B: Board>(
-    table: &mut Table<'_>,
-    line: &Line<'_>,
-    sitting: &Sitting<N, B>,
-) -> anyhow::Result<()> {
-    table.totals.begin();
-    table.compare_state(line, Answer::Accepted, digest_of(sitting))
 }
 
 fn fire<N: Net, B: Board>(
@@ -69,7 +67,7 @@ fn resume<N: Net, B: Board>(
     sitting: &mut Sitting<N, B>,
     request: &Request,
 ) -> anyhow::Result<()> {
-    let mut order = order_memory(table.heap(), request.memory)?;
+    let mut order = order_memory(table.alloc(), request.memory)?;
     let done = sitting.resume(
         request.tally.as_slice(),
         target_of(request),
@@ -87,7 +85,7 @@ fn survey<N: Net, B: Board>(
     sitting: &Sitting<N, B>,
     request: &Request,
 ) -> anyhow::Result<()> {
-    let mut findings = findings_memory(table.heap(), request.memory)?;
+    let mut findings = findings_memory(table.alloc(), request.memory)?;
     let done = sitting.survey(
         request.tally.as_slice(),
         target_of(request),
@@ -132,13 +130,13 @@ fn refusal_of(cause: Cause) -> u32 {
 }
 
 /// Order memory before a call: no entry is the number of a step.
-fn order_memory(heap: Global, length: usize) -> Result<Vec<u16>, AllocError> {
-    (0..length).map(|k| 200 + (k % 56) as u16).collect(heap)
+fn order_memory(alloc: Global, length: usize) -> Result<Vec<u16>, AllocError> {
+    (0..length).map(|k| 200 + (k % 56) as u16).collect(alloc)
 }
 
 /// Findings memory before a call: no finding has a place of a net.
-fn findings_memory(heap: Global, length: usize) -> Result<Vec<Finding>, AllocError> {
-    (0..length).map(finding_before).collect(heap)
+fn findings_memory(alloc: Global, length: usize) -> Result<Vec<Finding>, AllocError> {
+    (0..length).map(finding_before).collect(alloc)
 }
 
 fn finding_before(k: usize) -> Finding {

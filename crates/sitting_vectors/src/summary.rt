@@ -4,6 +4,9 @@ use refusals::Refusal;
 use std::alloc::{AllocError, Global};
 use std::io;
 
+/// The refusals of a sitting.
+const OF_SITTINGS: [u8; 10] = [7, 8, 9, 10, 11, 12, 13, 14, 15, 21];
+
 /// What was counted so far.
 #[derive(Drop)]
 pub(crate) struct Totals {
@@ -18,14 +21,14 @@ pub(crate) struct Totals {
 }
 
 impl Totals {
-    pub(crate) fn new(heap: Global) -> Totals {
+    pub(crate) fn new(alloc: Global) -> Totals {
         Totals {
             sittings: 0,
             refused_files: 0,
             fires: Outcomes::default(),
             resumes: Outcomes::default(),
             surveys: Outcomes::default(),
-            refused: Refused::new(heap),
+            refused: Refused::new(alloc),
             longest_order: 0,
             most_findings: 0,
         }
@@ -79,7 +82,7 @@ impl Totals {
         println!(rt; "resume: {resumes}")?;
         let surveys = self.surveys;
         println!(rt; "survey: {surveys}")?;
-        self.refused.print(rt)?;
+        self.refused.print(rt, &OF_SITTINGS)?;
         let order = self.longest_order;
         println!(rt; "longest order: {order}")?;
         let findings = self.most_findings;

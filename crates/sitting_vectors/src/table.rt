@@ -6,6 +6,9 @@ use comparisons::digest::Digest;
 use std::alloc::Global;
 use std::io;
 
+/// How many differences are printed.
+const PRINTED: u32 = 20;
+
 #[derive(Drop)]
 pub(crate) struct Table<'a> {
     rt: &'a HostRuntime,
@@ -22,17 +25,14 @@ impl<'a> Table<'a> {
         }
     }
 
-    pub(crate) fn heap(&self) -> Global {
+    pub(crate) fn alloc(&self) -> Global {
         self.rt.alloc()
     }
 
     /// Compares the answer in a line with the one here.
     pub(crate) fn compare(&mut self, line: &Line<'_>, answer: Answer) -> anyhow::Result<()> {
-        let here = answer.to_string(self.heap())?;
-        Ok(
-            self.comparison
-                .compare(self.rt, line.expected, here.as_str())?,
-        )
+        let here = answer.to_string(self.alloc())?;
+        Ok(self.compare_text(line.expected, here.as_str())?)
     }
 
     /// Compares it with an answer and a digest of everything after it.
@@ -43,16 +43,24 @@ impl<'a> Table<'a> {
         state: Digest,
     ) -> anyhow::Result<()> {
         let state = state.value;
-        let here = format!(in self.heap(); "{answer} {state}")?;
-        Ok(
-            self.comparison
-                .compare(self.rt, line.expected, here.as_str())?,
-        )
+        let here = format!(in self.alloc(); "{answer} {state}")?;
+        Ok(self.compare_text(line.expected, here.as_str())?)
     }
 
-    /// Prints what was counted, and how many lines differ.
-    pub(crate) fn report(&self) -> io::Result<()> {
+    fn compare_text(&mut self, expected: &str, here: &str) -> io::Result<()> {
+        if self.comparison.compare(expected, here) || self.comparison.differing > PRINTED {
+            return Ok(());
+        }
+        let line = self.comparison.compared();
+        println!(self.rt; "line {line}: the table has {expected}, but here it is {here}")
+    }
+
+    /// Prints what was counted, how many lines are left, if any, and how many differ.
+    pub(crate) fn report(&self, left: usize) -> io::Result<()> {
         self.totals.print(self.rt)?;
+        if left > 0 {
+            println!(self.rt; "{left} lines were not understood")?;
+        }
         let differences = self.comparison.differing;
         println!(self.rt; "{differences} differences")
     }

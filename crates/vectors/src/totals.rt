@@ -4,6 +4,9 @@ use comparisons::outcomes::{Outcomes, Refused};
 use std::alloc::Global;
 use std::io;
 
+/// The refusals of a net file.
+const OF_FILES: [u8; 6] = [1, 2, 3, 4, 5, 6];
+
 /// What was counted so far.
 #[derive(Drop)]
 pub(crate) struct Totals {
@@ -14,11 +17,11 @@ pub(crate) struct Totals {
 }
 
 impl Totals {
-    pub(crate) fn new(heap: Global) -> Totals {
+    pub(crate) fn new(alloc: Global) -> Totals {
         Totals {
             grid: Outcomes::default(),
             chained: Outcomes::default(),
-            refused: Refused::new(heap),
+            refused: Refused::new(alloc),
             comparison: Comparison::default(),
         }
     }
@@ -27,7 +30,7 @@ impl Totals {
     pub(crate) fn print(&self, rt: &HostRuntime) -> io::Result<()> {
         print_files(rt, "grid", self.grid)?;
         print_files(rt, "chained", self.chained)?;
-        self.refused.print(rt)?;
+        self.refused.print(rt, &OF_FILES)?;
         let differences = self.comparison.differing;
         println!(rt; "{differences} differences")
     }

@@ -1,0 +1,8 @@
+use Rattle.std.proofs.Common.{length, ◌≤◌}
+use Rattle.sitting_vectors.proofs.performed.sit.Given as goal
+
+abbrev pub invariant-loop-left : goal.invariant-loop-left
+invariant-loop-left g l = length l.left ≤ length l.lines
+
+abbrev pub decreases-loop-left : goal.decreases-loop-left
+decreases-loop-left g l = length l.left
