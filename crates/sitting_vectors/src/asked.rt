@@ -6,11 +6,13 @@ use std::alloc::Global;
 use std::num::ParseIntError;
 use std::str::FromStr;
 
-/// What a resume or a survey is given, and how long its memory is.
+/// What a resume or a survey is given, and how long its memory is. That of `handovers` would be no plainer
+/// here, where each call is made by itself.
 #[derive(Drop)]
 pub(crate) struct Request {
     pub(crate) memory: usize,
     pub(crate) tally: Vec<u16>,
+    /// Any byte: the table asks for unknown kinds too.
     pub(crate) kind: u8,
     pub(crate) target: Vec<u32>,
 }

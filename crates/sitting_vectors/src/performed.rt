@@ -115,17 +115,17 @@ fn length_of(done: Result<usize, Refusal>) -> Answer {
 fn add_findings(digest: &mut Digest, findings: &[Finding]) {
     for finding in findings {
         digest.add(u32::from(finding.place));
-        digest.add(refusal_of(finding.cause));
+        digest.add(u32::from(refusal_of(*finding).number()));
         digest.add_bytes(&finding.cause.number().to_le_bytes());
     }
 }
 
-/// The number of the refusal for the same cause.
-fn refusal_of(cause: Cause) -> u32 {
-    match cause {
-        Cause::Short(_) => 11,
-        Cause::CutOff => 12,
-        Cause::Missed(_) => 13,
+/// The refusal for the same cause at the same place.
+fn refusal_of(finding: Finding) -> Refusal {
+    match finding.cause {
+        Cause::Short(_) => Refusal::Short(finding.place),
+        Cause::CutOff => Refusal::CutOff(finding.place),
+        Cause::Missed(_) => Refusal::Missed(finding.place),
     }
 }
 
