@@ -4,3 +4,5 @@
 pub mod comparison;
 pub mod digest;
 pub mod outcomes;
+#[cfg(test)]
+mod tests;

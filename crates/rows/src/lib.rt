@@ -85,3 +85,6 @@ pub fn slots_of(alloc: Global, runs: &[u32]) -> anyhow::Result<Vec<u8>>
     ensure!(left.is_empty(), "an odd number of numbers");
     Ok(slots)
 }
+
+#[cfg(test)]
+mod tests;

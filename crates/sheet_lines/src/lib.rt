@@ -20,3 +20,6 @@ pub fn line_of(alloc: Global, sheet: &[u8]) -> anyhow::Result<Vec<u8>>
     line.truncate(length);
     Ok(line)
 }
+
+#[cfg(test)]
+mod tests;
