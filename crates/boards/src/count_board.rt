@@ -15,6 +15,7 @@ use refusals::Refusal;
 pub struct CountBoard {
     counts: [u32; PLACES],
     spare: u32,
+    // the law `outside` is over a value, and a value's array is a list of any length but for this
     ghost long: { length counts ≡ 64 },
     ghost lawful: { BoardLaw (at_place counts) spare },
 }
@@ -36,22 +37,22 @@ impl CountBoard {
     pub fn load(&mut self, row: &[u32], spare: u32) -> Result<(), Refusal>
         ensures answer { LoadSays row.now spare (at_place self.old.counts) self.old.spare result (at_place self.new.counts) self.new.spare }
     {
-        if row.len() != PLACES || total(row) + u64::from(spare) > u64::from(BOARD_LIMIT) {
+        let counts = <&[u32; PLACES]>::try_from(row).map_err(|_| Refusal::BoardRowUnfit)?;
+        if total(counts) + u64::from(spare) > u64::from(BOARD_LIMIT) {
             return Err(Refusal::BoardRowUnfit);
         }
-        self.counts.copy_from_slice(row);
+        self.counts = *counts;
         self.spare = spare;
         Ok(())
     }
 }
 
-// the sum of a row's counts
-fn total(row: &[u32]) -> u64
-    requires { length row.now ≡ 64 }
-    ensures value { result ≡ sum_to (at_place row.now) 64 }
+// the sum of the counts
+fn total(counts: &[u32; PLACES]) -> u64
+    ensures value { result ≡ sum_to (at_place counts.now) 64 }
     ensures bound { result ≤ 64 * 4294967295 }
 {
-    row.iter().map(|count| u64::from(*count)).sum()
+    counts.iter().map(|count| u64::from(*count)).sum()
 }
 
 impl Board for CountBoard {

@@ -49,11 +49,12 @@ impl SlotBoard {
     pub fn load(&mut self, bytes: &[u8]) -> Result<(), Refusal>
         ensures answer { LoadSays bytes.now self.old.slots result self.new.slots }
     {
-        if !fit(bytes) {
+        let slots = <&[u8; SLOTS]>::try_from(bytes).map_err(|_| Refusal::BoardRowUnfit)?;
+        if !fit(slots) {
             return Err(Refusal::BoardRowUnfit);
         }
-        self.slots.copy_from_slice(bytes);
-        self.free = count_of(bytes, EMPTY);
+        self.slots = *slots;
+        self.free = count_of(slots, EMPTY);
         Ok(())
     }
 
@@ -65,16 +66,15 @@ impl SlotBoard {
     }
 }
 
-// whether the bytes are as many as the slots, and none is above the highest
-fn fit(bytes: &[u8]) -> bool
-    ensures { MatchBool result (SlotsFit bytes.now) (SlotsFit bytes.now → ⊥) }
+// whether no slot holds more than the highest
+fn fit(slots: &[u8; SLOTS]) -> bool
+    ensures { MatchBool result (SlotsFit slots.now) (SlotsFit slots.now → ⊥) }
 {
-    bytes.len() == SLOTS && bytes.iter().all(|byte| *byte <= HIGHEST)
+    slots.iter().all(|held| *held <= HIGHEST)
 }
 
 // how many slots hold the number
-fn count_of(slots: &[u8], held: u8) -> u32
-    requires { length slots.now ≡ 4096 }
+fn count_of(slots: &[u8; SLOTS], held: u8) -> u32
     ensures { result ≡ occurs held slots.now }
 {
     slots.iter().filter(|slot| **slot == held).count() as u32
