@@ -13,8 +13,7 @@ use std::array;
 pub(crate) fn read_fours(sheet: &[u8], begin: usize, count: u8) -> [u32; MOST_PLACES]
     requires begin { begin < 2 ^ 20 }
     requires count { count ≤ 64 }
-    ensures long { length result ≡ 64 }
-    ensures numbers { (p : ℕ) → at result p ≡ below count (fours sheet.now begin) p }
+    ensures { (p : ℕ) → at result p ≡ below count (fours sheet.now begin) p }
 {
     let count = usize::from(count);
     array::from_fn(|p| (p < count)
@@ -26,8 +25,7 @@ pub(crate) fn read_fours(sheet: &[u8], begin: usize, count: u8) -> [u32; MOST_PL
 pub(crate) fn read_twos(sheet: &[u8], begin: usize, count: u16) -> [u16; MOST_STEPS]
     requires begin { begin < 2 ^ 20 }
     requires count { count ≤ 128 }
-    ensures long { length result ≡ 128 }
-    ensures numbers { (t : ℕ) → at result t ≡ below count (twos sheet.now begin) t }
+    ensures { (t : ℕ) → at result t ≡ below count (twos sheet.now begin) t }
 {
     let count = usize::from(count);
     array::from_fn(|t| (t < count)

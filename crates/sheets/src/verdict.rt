@@ -14,7 +14,7 @@ ghost use Rattle.theory.specs.Rows.{at};
 use crate::rows::{read_fours, read_twos};
 use crate::sheet::Sheet;
 use answers::Kind;
-use boards::board::Board;
+use boards::board::{Board, PLACES};
 use boards::count_board::CountBoard;
 use checks::Target;
 use layers::allowance::Allowance;
@@ -32,8 +32,7 @@ const SPARE: u32 = 1_000_000;
 
 /// The board that a sheet is judged on: a renaming that changes no number over an allowance over a
 /// count board with the start counts.
-fn board_of(starts: &[u32]) -> Result<Renaming<Allowance<CountBoard>>, Refusal>
-    requires { length starts.now ≡ 64 }
+fn board_of(starts: &[u32; PLACES]) -> Result<Renaming<Allowance<CountBoard>>, Refusal>
     ensures { MatchResult result (λ b. let counts = renamed b.row (at_place b.below.below.counts) in let spare = min b.below.left b.below.below.spare in (unlawful (at starts.now) ≡ false) × (counts ≡ at starts.now) × (spare ≡ spare_given)) (λ e. (unlawful (at starts.now) ≡ true) × (e ≡ BoardRowUnfit)) }
 {
     let mut board = CountBoard::new();
@@ -69,8 +68,10 @@ fn resume_sheet<N: Net + Drop, B: Board + Drop>(
 
 /// Judges a sheet: writes the first order of its tally from the front of the order memory and answers
 /// its length, or says why the sheet is refused.
-pub(crate) fn find_order(sheet: &Sheet<'_>, order: &mut [u16]) -> Result<usize, Refusal>
-    requires { length order.old ≡ order_entries }
+pub(crate) fn find_order(
+    sheet: &Sheet<'_>,
+    order: &mut [u16; ORDER_ENTRIES],
+) -> Result<usize, Refusal>
     ensures { Found sheet.now.bytes.now order.old result order.new }
 {
     let net = sheet.net()?;

@@ -1,5 +1,4 @@
-use Rattle.std.proofs.Common.{◌≡◌, ℕ, ◌≤◌, List, length, take, drop, replicate, Some, None, Ok, sym, ap, ◌∙◌, subst, arith, rules}
-use lib.ListN.{length-replicate}
+use Rattle.std.proofs.Common.{◌≡◌, ℕ, List, length, take, drop, replicate, Some, None, Ok, sym, ap, ◌∙◌, subst, arith}
 use Rattle.std.proofs.lemmas.List.{take_at}
 use Rattle.refusals.specs.Answered.{answered}
 use Rattle.answers.specs.Answers.{unless, written}
@@ -9,12 +8,6 @@ use Rattle.answers.proofs.Answered.{refused_with, accepted_with}
 use Rattle.sheets.specs.Verdicts.{sheet_refusal, sheet_order, sheet_line, line_for}
 use Rattle.sheets.proofs.Judging.{judged}
 use Rattle.sheets.proofs.judge.Goals as goal
-
-pub slice_bounds-write_order-end : goal.slice_bounds-write_order-end
-slice_bounds-write_order-end c =
-    let fits : c.in-Ok.length ≤ 4096 = omega (arith, c.in-Ok.ensures.fits, length-replicate {A = ℕ} 4096 0) in
-    let long : length c.find_order.new.order ≡ 4096 = c.find_order.auto.order ∙ length-replicate {A = ℕ} 4096 0 in
-    search rules
 
 pub returns-in-Ok : goal.returns-in-Ok
 returns-in-Ok c =

@@ -4,8 +4,8 @@ use Rattle.sheets.specs.Parts.{fours, below}
 use Rattle.sheets.proofs.Filled.{filled_row}
 use Rattle.sheets.proofs.rows.read_fours.Goals as goal
 
-pub returns-clause-numbers : goal.returns-clause-numbers
-returns-clause-numbers c =
+pub returns : goal.returns
+returns c =
     let f = fours c.args.sheet.now c.args.begin in
     filled_row c.from_fn.result 64 c.args.count f (search rules) c.requires.count
     (λ i h. filled_at _ _ (below c.args.count f) (λ x r q e. search rules) c.from_fn.ensures.items i 0 h)

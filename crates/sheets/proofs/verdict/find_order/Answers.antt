@@ -54,7 +54,7 @@ returns-in_err-board c =
     ap not (lt-ltb (kind_of sheet) 2 (omega (arith, c.in_ok-kind.ensures, byte_small c.in_ok-kind.kind, c.byte_at.ensures, ap (byte sheet) c.args.sheet.now.found.kind))) in
     let places : c.places.result ≡ chained_places sheet = c.places.ensures ∙ ap chained_places file ∙ head_kept sheet 0 (omega arith) in
     let starts : at c.read_fours-starts.result ≡ start_of sheet =
-    fun_ext c.read_fours-starts.ensures.numbers
+    fun_ext c.read_fours-starts.ensures
     ∙ ap (λ n. below n (fours sheet c.args.sheet.now.parts.starts)) places
     ∙ ap (λ n. below (chained_places sheet) (fours sheet n)) c.args.sheet.now.found.starts in
     let e = c.in_err-board.field-0.0 in
@@ -83,7 +83,7 @@ returns c =
     ap not (lt-ltb (kind_of sheet) 2 (omega (arith, c.in_ok-kind.ensures, byte_small c.in_ok-kind.kind, c.byte_at.ensures, ap (byte sheet) c.args.sheet.now.found.kind))) in
     let places : c.places.result ≡ chained_places sheet = c.places.ensures ∙ ap chained_places file ∙ head_kept sheet 0 (omega arith) in
     let starts : at c.read_fours-starts.result ≡ start_of sheet =
-    fun_ext c.read_fours-starts.ensures.numbers
+    fun_ext c.read_fours-starts.ensures
     ∙ ap (λ n. below n (fours sheet c.args.sheet.now.parts.starts)) places
     ∙ ap (λ n. below (chained_places sheet) (fours sheet n)) c.args.sheet.now.found.starts in
     let pile = c.in_ok-board.board in
@@ -95,5 +95,5 @@ returns c =
     let form = same_form (net_refusal sheet) None (kind_unknown sheet) false (unlawful (start_of sheet)) false net kind (sym (ap unlawful starts) ∙ fits.0) in
     let board : new_on counts spare ≡ sitting_of sheet = ap (λ z. new_on z spare) (fits.1 ∙ starts) ∙ ap (new_on (start_of sheet)) fits.2 in
     let N = chained_net c.in_ok-net.net.file.now in
-    found_resumed sheet memory r memory' c.requires form c.resume_sheet.ensures.fits
+    found_resumed sheet memory r memory' c.told-order form c.resume_sheet.ensures.fits
     (like (Resumed r memory memory') N (net_of sheet) (new_on counts spare) (sitting_of sheet) (tally_of sheet) (tally_of sheet) (target_in sheet) (target_in sheet) (ap chained_net file) board refl refl c.resume_sheet.ensures.resumed)
