@@ -2,3 +2,4 @@ pub mod Going
 pub mod CutOffs
 pub mod Turns
 pub mod Leaves
+pub mod Checked

@@ -15,6 +15,7 @@ pub struct Sitting<N: Net, B: Board> {
     pub(crate) net: N,
     pub(crate) board: B,
     pub(crate) done: [u16; DONE_COUNTS],
+    // said here, as a proof over a sitting's value would take its array for a list of any length
     ghost long: { length done ≡ 128 },
     ghost total: { sum_to (at done) 128 ≤ 65535 },
 }

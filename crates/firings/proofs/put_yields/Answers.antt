@@ -1,7 +1,7 @@
 use Rattle.std.proofs.Common.{◌+◌, ◌<◌, ◌≤◌, ap, ◌∙◌, arith}
 use Rattle.theory.proofs.SumLaws.{sum_to_front}
 use Rattle.boards.specs.Boards.{at}
-use Rattle.firings.proofs.Puts.{put_none, put_more, put_all, put_accepted, at_zero}
+use Rattle.firings.proofs.Puts.{put_none, put_more, put_accepted, at_zero}
 use Rattle.firings.proofs.put_yields.Goals as goal
 use Rattle.firings.proofs.put_yields.Goals.{then-blocks-gt0, else-blocks-gt0}
 
@@ -35,13 +35,3 @@ loop-place-preserved g c =
           omega (arith, ap R w.board-is, d.lowered, w.from.ensures, y)
       | else-blocks-gt0 w ↦ omega (arith, ap R w.board-is, w.if-blocks-gt0.false, y)
     ])
-
-pub returns : goal.returns
-returns g c =
-    let H = g.B.Board.counts in
-    let R = g.B.Board.spare in
-    let N = g.N.Net.meaning c.args.net.now in
-    let b₀ = c.args.board.now in
-    let b = c.loop-place.board in
-    let all = put_all (H b₀) (R b₀) (N.net.yields c.args.step) N.net.places c.loop-place.place (H b) (R b) (omega (arith, c.loop-place-test.false, c.places-place-end.ensures)) (λ q h. N.law.no_yield_outside_places c.args.step q h) c.loop-place.invariant in
-    record { counts = all.0; spare = all.1 }

@@ -1,29 +1,16 @@
-use Rattle.std.proofs.Common.{◌≡◌, ℕ, ◌+◌, ◌<◌, length, sym, refl, ap, ◌∙◌, subst, arith, rules}
+use Rattle.std.proofs.Common.{◌≡◌, ℕ, ◌+◌, ◌<◌, length, sym, ap, ◌∙◌, subst, arith}
 use Rattle.theory.specs.Rows.{at}
-use Rattle.theory.specs.Firing.{after}
 use Rattle.theory.specs.Tallies.{steps_asked}
 use Rattle.theory.specs.Tests.{first_order}
 use Rattle.theory.proofs.FirstOrder.{computed_is_first}
-use Rattle.answers.specs.Answers.{written}
 use Rattle.answers.specs.Calls.{yields_in}
 use Rattle.answers.proofs.Leading.{yields_is}
 use Rattle.lists.specs.declared.BoundedList.{BoundedList}
 use Rattle.schedules.specs.declared.schedule.Schedule.{Schedule}
-use Rattle.orders.proofs.Going.{Going, going_none, going_all}
+use Rattle.orders.proofs.Going.{Going, going_all}
 use Rattle.orders.proofs.Turns.{turn, none_cut_off, some_left}
 use Rattle.orders.proofs.first_order.fire_first_order.Goals as goal
 use Rattle.orders.proofs.first_order.fire_first_order.Goals.{in-Some, in_default}
-
-pub loop-init : goal.loop-init
-loop-init g c =
-    let H = g.B.Board.counts in
-    let R = g.B.Board.spare in
-    let N = (g.N.Net.meaning c.args.net.now).net in
-    let b = c.args.board.now in
-    let x = at c.args.tally.now in
-    let lent = c.new-order.result.memory.now in
-    let P : ℕ → Type 0 = λ len. Going N (H b) x (R b) lent 0 c.args.schedule (H b) (R b) lent len in
-    (refl, subst P (sym c.new-order.ensures.empty) (going_none N (H b) x (R b) lent c.args.schedule c.requires.shows c.requires.can c.requires.room))
 
 pub loop-preserved : goal.loop-preserved
 loop-preserved g c =
@@ -63,27 +50,17 @@ loop-preserved g c =
           (sym (c.next_step.ensures N.net (H b) x N.law going.shows (none_cut_off N.net N.law (H b) x going.can)) ∙ w.in_default.is))
     ]
 
-pub returns : goal.returns
-returns g c =
+pub returns-clause-spare : goal.returns-clause-spare
+returns-clause-spare g c =
     let H = g.B.Board.counts in
     let R = g.B.Board.spare in
     let N = g.N.Net.meaning c.args.net.now in
     let b₀ = c.args.board.now in
     let x₀ = at c.args.tally.now in
-    let lent = c.new-order.result.memory.now in
-    let k = c.loop.counter in
     let b = c.loop.board in
     let o = c.loop.order in
     let going = c.loop.invariant.1 in
-    let end : k ≡ steps_asked N.net x₀ = omega (arith, c.loop-test.false, c.loop.auto.counter-end, c.steps_asked-end.ensures.answer) in
-    let all = going_all N.net (H b₀) x₀ (R b₀) lent k c.loop.schedule (H b) (R b) o.memory.now o.len going end in
-    let first = first_order N.net (H b₀) x₀ in
-    let yields = yields_is N.net (H b₀) x₀ first (computed_is_first N.net N.law.inputs_inside (H b₀) x₀ c.requires.can).realizes in
-    let front : o.memory.now ≡ written first c.args.memory.now =
-    going.written.front ∙ ap (λ z. written z lent) all ∙ ap (written first) c.new-order.ensures.memory in
-    record {
-      answer = c.len.ensures ∙ (going.written.long ∙ ap length all);
-      memory = search rules;
-      counts = going.leads ∙ ap (after N.net (H b₀)) all;
-      spare = omega (arith, going.moved, ap (yields_in N.net) all, yields, going.long, end);
-    }
+    let end : c.loop.counter ≡ steps_asked N.net x₀ = omega (arith, c.loop-test.false, c.loop.auto.counter-end, c.steps_asked-end.ensures.answer) in
+    let all = going_all N.net (H b₀) x₀ (R b₀) c.new-order.result.memory.now c.loop.counter c.loop.schedule (H b) (R b) o.memory.now o.len going end in
+    let yields = yields_is N.net (H b₀) x₀ (first_order N.net (H b₀) x₀) (computed_is_first N.net N.law.inputs_inside (H b₀) x₀ c.requires.can).realizes in
+    omega (arith, going.moved, ap (yields_in N.net) all, yields, going.long, end)

@@ -11,5 +11,5 @@ zeros t = ⊎_elim (λ h. get_or-replicate 128 t 0 0 h) (λ h. get_or_past (repl
 pub invariant_of-result : goal.invariant_of-result
 invariant_of-result g c = record { long = refl; total = omega (arith, sum_to_none (at (replicate 128 0)) 128 (λ t _. zeros t)) }
 
-pub returns : goal.returns
-returns g c = record { net = refl; board = refl; done = zeros }
+pub returns-clause-done : goal.returns-clause-done
+returns-clause-done g c = zeros

@@ -1,0 +1,38 @@
+-- What the checks of a tally tell of the sitting that it is fired on.
+use Rattle.std.proofs.Common.{◌≡◌, ℕ, List, None, Option, sym, ap, ◌∙◌}
+use mathlib.Core.Path.{fun_ext}
+use Rattle.refusals.specs.declared.Refusal.{Refusal}
+use Rattle.theory.specs.Nets.{NetMeaning}
+use Rattle.theory.specs.Rows.{at}
+use Rattle.theory.specs.Firing.{Marking}
+use Rattle.checks.specs.Held.{held, target_of}
+use Rattle.answers.specs.declared.Kind.{Kind}
+use Rattle.answers.specs.Kinds.{byte_of, target_with}
+use Rattle.answers.specs.States.{Target}
+use Rattle.answers.specs.Answers.{size_refusal, cause_refusal, resume_refusal}
+use Rattle.answers.proofs.Options.{or_none}
+
+module _ (N : NetMeaning) (counts : Marking) (spare : ℕ) (done tally numbers : List ℕ) (byte memory : ℕ) where
+  -- the sizes, as the board's spare was asked for them
+  pub sizes_as_asked : (asked : ℕ) (o : Option Refusal) → asked ≡ spare →
+      size_refusal N (held counts asked done) tally (target_of numbers byte) memory ≡ o →
+      size_refusal N (held counts spare done) tally (target_of numbers byte) memory ≡ o
+  sizes_as_asked asked o e h =
+      let sizes : ℕ → Option Refusal = λ z. size_refusal N (held counts z done) tally (target_of numbers byte) memory in
+      sym (ap sizes e) ∙ h
+
+  -- the causes, as the row of the board's counts and the known kind were asked for them
+  pub causes_as_asked : (row : List ℕ) (kind : Kind) (o : Option Refusal) → ((p : ℕ) → at row p ≡ counts p) → byte ≡ byte_of kind →
+      cause_refusal N (at row) (at tally) (target_with numbers kind) ≡ o → cause_refusal N counts (at tally) (target_of numbers byte) ≡ o
+  causes_as_asked row kind o counted known h =
+      let causes : Marking → Target → Option Refusal = λ m t. cause_refusal N m (at tally) t in
+      sym (ap (λ m. causes m (target_with numbers kind)) (fun_ext counted) ∙ ap (λ z. causes counts (target_of numbers z)) (sym known)) ∙ h
+
+  -- neither refuses
+  pub accepted_as_asked : (asked : ℕ) (row : List ℕ) (kind : Kind) → asked ≡ spare → ((p : ℕ) → at row p ≡ counts p) →
+      (size_refusal N (held counts asked done) tally (target_of numbers byte) memory ≡ None) × (byte ≡ byte_of kind) →
+      cause_refusal N (at row) (at tally) (target_with numbers kind) ≡ None →
+      resume_refusal N (held counts spare done) tally (target_of numbers byte) memory ≡ None
+  accepted_as_asked asked row kind e counted checked h =
+      or_none (size_refusal N (held counts spare done) tally (target_of numbers byte) memory) (cause_refusal N counts (at tally) (target_of numbers byte))
+      (sizes_as_asked asked None e checked.0) (causes_as_asked row kind None counted checked.1 h)
