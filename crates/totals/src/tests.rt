@@ -30,36 +30,41 @@ fn tripler<'a>(rt: &impl Abort, file: &'a [u8]) -> Result<(), Fail> {
 fn detour<'a>(rt: &impl Abort, file: &'a [u8]) -> Result<(), Fail> {
     let mut net: GridNet<'a> = GridNet::new();
     net.load(file)?;
-    let at_least = Asked {
+    let asked = Asked {
         net: &net,
         counts: &[1, 0, 0],
         tally: &[0, 1, 2],
         target: &[0, 0, 0],
         kind: Kind::AtLeast,
     };
+    final_numbers(rt, &asked)?;
+    missed_numbers(rt, &asked)
+}
+
+fn final_numbers(rt: &impl Abort, asked: &Asked<'_, GridNet<'_>>) -> Result<(), Fail> {
     assert_eq!(rt;
         (
-            at_least.final_number(0),
-            at_least.final_number(1),
-            at_least.final_number(2),
+            asked.final_number(0),
+            asked.final_number(1),
+            asked.final_number(2),
         ),
         (2, -1, 0)
     );
     assert_eq!(rt;
-        (
-            at_least.is_short(0),
-            at_least.is_short(1),
-            at_least.least_short(),
-        ),
+        (asked.is_short(0), asked.is_short(1), asked.least_short()),
         (false, true, Some(1))
     );
+    Ok(())
+}
+
+fn missed_numbers(rt: &impl Abort, at_least: &Asked<'_, GridNet<'_>>) -> Result<(), Fail> {
     assert_eq!(rt;
         (at_least.least_missed(), at_least.missed_by(1)),
         (Some(1), -1)
     );
     let exact = Asked {
         kind: Kind::Exact,
-        ..at_least
+        ..*at_least
     };
     assert_eq!(rt; (exact.least_missed(), exact.missed_by(0)), (Some(0), 2));
     let met = Asked {
