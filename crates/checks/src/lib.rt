@@ -59,6 +59,7 @@ pub fn check_sizes<N: Net>(
     if done_total(done) + asked > DONE_LIMIT {
         return Err(Refusal::DoneLimit);
     }
+    // a cast, since a `usize` has no `From` into a `u64`
     if (memory as u64) < asked {
         return Err(Refusal::OrderMemoryShort);
     }

@@ -22,7 +22,8 @@ leads_to N x q p = any_below (λ t. takes N x q t && nat_lt 0 (N.yields t p)) N.
 abbrev pub takers_at : NetMeaning → Tally → ℕ → ℕ
 takers_at N x p = sum_to (λ t. cond (takes N x p t) 1 0) N.steps
 
--- the schedule shows the net, the marking and the tally
+-- the schedule shows the net, the marking and the tally; no `impl Model`, as the rows tell a net, a marking and
+-- a tally only below the number of places and of steps
 pub record Shows (N : NetMeaning) (m : Marking) (x : Tally) (s : Schedule) : Type 0 where
   pub steps : s.steps ≡ N.steps
   pub held : (p : ℕ) → p < N.places → at s.held p ≡ m p

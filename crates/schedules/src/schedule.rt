@@ -8,7 +8,8 @@ use place_sets::PlaceSet;
 
 /// The blocks (tokens) at each place, how often each step is still to be done, and where blocks
 /// can come from there.
-// One row for each kind of number: the search for the next step reads little but `left`.
+// One row for each kind of number: clauses say of each what it holds, where a row of structs would be named
+// with a field at each place besides.
 #[derive(Drop)]
 pub struct Schedule {
     pub(crate) steps: u16,
