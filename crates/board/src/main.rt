@@ -5,11 +5,13 @@ mod desk;
 mod on_pile;
 mod script;
 
+use boards::board::Board;
 use boards::count_board::CountBoard;
 use calls::Answer;
 use desk::Desk;
 use on_pile::{Full, OnPile, Under};
-use script::{Load, Pile, piles};
+use refusals::Refusal;
+use script::{Line, Load, Pile, piles};
 use slot_board::SlotBoard;
 use std::io;
 
@@ -32,14 +34,24 @@ fn make(desk: &mut Desk<'_>, pile: &Pile<'_>) -> anyhow::Result<()> {
         Some((line, Load::Counts(row, spare))) => {
             let mut board = CountBoard::new();
             let done = board.load(row.as_slice(), *spare);
-            desk.show(line, &board, Answer::from(done))?;
-            FourLayers::run(desk, lines, board)
+            on_board(desk, line, lines, board, done)
         }
         Some((line, Load::Slots(row))) => {
             let mut board = SlotBoard::new();
             let done = board.load(row.as_slice());
-            desk.show(line, &board, Answer::from(done))?;
-            FourLayers::run(desk, lines, board)
+            on_board(desk, line, lines, board, done)
         }
     }
+}
+
+/// Shows what the load of a board answered, and makes the calls of the lines on it.
+fn on_board<B: Board + Drop>(
+    desk: &mut Desk<'_>,
+    load: &str,
+    lines: &[Line<'_>],
+    board: B,
+    done: Result<(), Refusal>,
+) -> anyhow::Result<()> {
+    desk.show(load, &board, Answer::from(done))?;
+    FourLayers::run(desk, lines, board)
 }
