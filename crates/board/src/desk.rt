@@ -1,6 +1,6 @@
 //! The desk: what was last shown of the board, and what is printed of a line.
 use boards::board::{Board, PLACES};
-use calls::{Answer, all_counts};
+use calls::{Answer, Call, all_counts, perform};
 use std::io;
 
 /// The longest bar of a picture.
@@ -25,6 +25,17 @@ impl<'a> Desk<'a> {
     /// Prints a line with the words.
     pub(crate) fn say(&self, line: &str, words: &str) -> io::Result<()> {
         println!(self.rt; "> {line}\n  {words}")
+    }
+
+    /// Makes the call of a line, and prints the line with its answer and what it changed.
+    pub(crate) fn call<B: Board>(
+        &mut self,
+        line: &str,
+        board: &mut B,
+        call: Call,
+    ) -> anyhow::Result<()> {
+        let answer = perform(board, call);
+        self.show(line, board, answer)
     }
 
     /// Prints a line with its answer and what it changed.

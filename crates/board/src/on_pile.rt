@@ -2,7 +2,7 @@
 use crate::desk::Desk;
 use crate::script::{Asked, Line};
 use boards::board::Board;
-use calls::{Answer, perform};
+use calls::Answer;
 use layers::allowance::Allowance;
 use layers::renaming::Renaming;
 use std::marker::PhantomData;
@@ -32,10 +32,7 @@ impl OnPile for Full {
     ) -> anyhow::Result<()> {
         for line in lines {
             match &line.asked {
-                Some(Asked::Call(call)) => {
-                    let answer = perform(&mut board, *call);
-                    desk.show(line.code, &board, answer)?;
-                }
+                Some(Asked::Call(call)) => desk.call(line.code, &mut board, *call)?,
                 Some(_) => desk.say(line.code, "the pile has four layers already")?,
                 None => desk.say(line.code, "not understood")?,
             }
@@ -53,10 +50,7 @@ impl<Above: OnPile> OnPile for Under<Above> {
         let mut left = lines.iter();
         for line in left.by_ref() {
             match &line.asked {
-                Some(Asked::Call(call)) => {
-                    let answer = perform(&mut board, *call);
-                    desk.show(line.code, &board, answer)?;
-                }
+                Some(Asked::Call(call)) => desk.call(line.code, &mut board, *call)?,
                 Some(Asked::Rename(row)) => {
                     let mut layer = Renaming::new(board);
                     let done = layer.load(row.as_slice());
