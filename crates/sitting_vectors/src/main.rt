@@ -11,6 +11,7 @@ mod table;
 
 use anyhow::bail;
 use asked::{Asked, read};
+use boards::board::Board;
 use boards::count_board::CountBoard;
 use calls::{Answer, all_counts};
 use comparisons::comparison::{Line, next_line};
@@ -102,46 +103,34 @@ fn on_net<'a, N: Net + Drop>(
     };
     match read(table.alloc(), load.asked)? {
         Some(Asked::Counts(row, spare)) => {
-            on_counts(table, load, left, net, row.as_slice(), spare)
+            let mut board = CountBoard::new();
+            let done = board.load(row.as_slice(), spare);
+            let (board, left) = on_board(table, load, left, net, board, done)?;
+            compare_kept(table, left, &all_counts(&board))
         }
-        Some(Asked::Slots(row)) => { on_slots(table, load, left, net, row.as_slice()) }
+        Some(Asked::Slots(row)) => {
+            let mut board = SlotBoard::new();
+            let done = board.load(row.as_slice());
+            let (board, left) = on_board(table, load, left, net, board, done)?;
+            compare_kept(table, left, board.slots())
+        }
         _ => bail!("a net without a board"),
     }
 }
 
-/// The sitting on a count board, whose counts are compared at the end; gives the lines that are left.
-fn on_counts<'a, N: Net + Drop>(
+/// The line that loads a board, and the sitting on it; gives the board back, and the lines that are left.
+fn on_board<'a, N: Net + Drop, B: Board + Drop>(
     table: &mut Table<'_>,
     load: &Line<'_>,
     lines: &'a [Line<'a>],
     net: N,
-    row: &[u32],
-    spare: u32,
-) -> anyhow::Result<&'a [Line<'a>]>
-    ensures { IfOk result (λ left. length left.now ≤ length lines.now) }
+    board: B,
+    done: Result<(), Refusal>,
+) -> anyhow::Result<(B, &'a [Line<'a>])>
+    ensures { IfOk result (λ done. length done.1.now ≤ length lines.now) }
 {
-    let mut board = CountBoard::new();
-    let done = board.load(row, spare);
     table.compare(load, Answer::from(done))?;
-    let (board, left) = TwoLayers::run(table, lines, net, board)?;
-    compare_kept(table, left, &all_counts(&board))
-}
-
-/// The sitting on a slot board, whose slots are compared at the end; gives the lines that are left.
-fn on_slots<'a, N: Net + Drop>(
-    table: &mut Table<'_>,
-    load: &Line<'_>,
-    lines: &'a [Line<'a>],
-    net: N,
-    row: &[u8],
-) -> anyhow::Result<&'a [Line<'a>]>
-    ensures { IfOk result (λ left. length left.now ≤ length lines.now) }
-{
-    let mut board = SlotBoard::new();
-    let done = board.load(row);
-    table.compare(load, Answer::from(done))?;
-    let (board, left) = TwoLayers::run(table, lines, net, board)?;
-    compare_kept(table, left, board.slots())
+    TwoLayers::run(table, lines, net, board)
 }
 
 /// Compares what a board keeps with the next line; gives the lines that are left.
