@@ -24,9 +24,7 @@ impl Base for CountBoard {
     }
 
     fn kept(&self) -> Digest {
-        let mut digest = Digest::new();
-        digest.add_all(&all_counts(self));
-        digest
+        digest_of(&all_counts(self))
     }
 }
 
@@ -39,8 +37,12 @@ impl Base for SlotBoard {
     }
 
     fn kept(&self) -> Digest {
-        let mut digest = Digest::new();
-        digest.add_all(self.slots());
-        digest
+        digest_of(self.slots())
     }
+}
+
+fn digest_of<T: Copy + Into<u32>>(numbers: &[T]) -> Digest {
+    let mut digest = Digest::new();
+    digest.add_all(numbers);
+    digest
 }
