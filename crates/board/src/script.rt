@@ -60,7 +60,8 @@ pub(crate) fn piles(alloc: Global, text: &str) -> Result<Vec<Pile<'_>>, AllocErr
     Ok(piles)
 }
 
-/// A line without its comment and the spaces around it.
+/// A line without its comment and the spaces around it. The program `handover` has the same: a shared one would
+/// be no plainer, as its clause would only repeat those of `split_once` and `trim`.
 fn code_of(line: &str) -> &str {
     let (code, _) = line.split_once('#').unwrap_or((line, ""));
     code.trim()
@@ -90,6 +91,8 @@ fn read_asked(alloc: Global, words: &[&str]) -> Result<Asked, Fault> {
     let asked = match words {
         ["rename", places @ ..] => {
             let mut row = numbers::<u8, Fault>(alloc, places)?;
+            // `handover` has this line too: a function for both would be no plainer, as its clause would only repeat
+            // those of `extend` and `skip`.
             row.extend((0..=LAST_PLACE).skip(row.len()))?;
             Asked::Rename(row)
         }

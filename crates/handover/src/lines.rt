@@ -69,6 +69,8 @@ fn setting<'a>(first: &'a str, rest: &[&'a str]) -> Result<Line, Fault<'a>> {
 /// A renaming: what each place stands for; a place without a number stands for itself.
 fn renaming<'a>(alloc: Global, words: &[&'a str]) -> Result<Line, Fault<'a>> {
     let mut row = numbers_of(alloc, words)?;
+    // `board` has this line too: a function for both would be no plainer, as its clause would only repeat those of
+    // `extend` and `skip`.
     row.extend((0..=LAST_PLACE).skip(row.len()))?;
     Ok(Line::Rename(row))
 }

@@ -59,7 +59,8 @@ where
     }
 }
 
-/// The words as numbers.
+/// The words as numbers. It stands beside `numbers` of the crate `rows`, whose error is made of that of `parse`
+/// alone: the one here names the word.
 pub(crate) fn numbers_of<'a, T: Number>(
     alloc: Global,
     words: &[&'a str],
