@@ -30,8 +30,8 @@ fn main(rt: HostRuntime) -> anyhow::Result<()> {
 
 /// Compares the lines of one pile after the other, up to one that makes no board; answers how many are
 /// left from there on.
-// It stands in both programs that read tables of piles: a shared one would take a trait for their tables, and be no
-// plainer.
+// It stands in both programs that read tables of piles: a shared one would be no plainer, as it would take a trait
+// for their tables.
 fn compare_all(table: &mut Table<'_>, lines: &[Line<'_>]) -> anyhow::Result<usize> {
     // a count and no slice: the borrow checker does not cover a loop whose slice is what a call gave
     let mut left = lines.len();
