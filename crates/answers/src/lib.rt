@@ -1,12 +1,16 @@
 //! Answers: what fire, resume and survey answer and leave, as definitions, and the promise over them.
 #![tactic(auto)]
 
+ghost use Rattle.answers.specs.Answers.{is_missed};
 ghost use Rattle.answers.specs.Cases.{CasesHold};
 ghost use Rattle.answers.specs.Findings.{number_of};
-ghost use Rattle.answers.specs.Kinds.{byte_of, KindOf};
+ghost use Rattle.answers.specs.Kinds.{byte_of, KindOf, target_with};
 ghost use Rattle.answers.specs.Pinned.{Pinned};
 ghost use Rattle.answers.specs.Promise.{Promise};
-ghost use Rattle.std.specs.Prelude.{◌≡◌};
+ghost use Rattle.std.specs.Prelude.{◌≡◌, ℕ, List};
+ghost use Rattle.theory.specs.Firing.{Marking};
+ghost use Rattle.theory.specs.Nets.{NetMeaning};
+ghost use Rattle.theory.specs.Tallies.{Tally};
 
 use refusals::Refusal;
 
@@ -29,6 +33,18 @@ impl TryFrom<u8> for Kind {
             0 => Ok(Kind::Exact),
             1 => Ok(Kind::AtLeast),
             _ => Err(Refusal::RowsUnfit),
+        }
+    }
+}
+
+impl Kind {
+    /// The kind by which places are compared for any byte: each but 0 asks for at least.
+    pub fn compared_by(byte: u8) -> Kind
+        ensures { (N : NetMeaning) (m : Marking) (x : Tally) (numbers : List ℕ) (p : ℕ) → is_missed N m x (target_with numbers result) p ≡ is_missed N m x (record { numbers = numbers; kind = byte }) p }
+    {
+        match byte {
+            0 => Kind::Exact,
+            _ => Kind::AtLeast,
         }
     }
 }

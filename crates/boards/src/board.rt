@@ -4,11 +4,12 @@ ghost use Rattle.boards.specs.Boards.{BoardLaw, IndexSays, TakeSays, PutSays};
 
 use refusals::Refusal;
 
-/// How many places a board has, numbered from 0.
+/// How many places a board has, numbered from 0. Nets and place sets have this number too, for themselves: none of
+/// the three rests on another.
 pub const PLACES: usize = 64;
 
 /// The highest place of a board.
-pub const LAST_PLACE: u8 = 63;
+pub const LAST_PLACE: u8 = PLACES as u8 - 1;
 
 /// The place as an index into a row of all places; refused above place 63.
 pub fn index_of(place: u8) -> Result<usize, Refusal>

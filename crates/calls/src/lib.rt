@@ -42,6 +42,7 @@ pub fn perform<B: Board>(board: &mut B, call: Call) -> Answer
 pub fn all_counts<B: Board>(board: &B) -> [u32; PLACES]
     ensures answer { (p : ℕ) → slice_index result p ≡ B.counts board.now p }
 {
+    // an index of the array, so the cast keeps it
     array::from_fn(|place| board.count(place as u8))
 }
 

@@ -10,7 +10,7 @@ ghost use Rattle.refusals.specs.declared.Refusal.TheVariants.{RowsUnfit};
 ghost use Rattle.theory.specs.Firing.{Marking};
 
 use answers::Kind;
-use nets::net::Net;
+use nets::net::{MOST_PLACES, Net};
 use refusals::Refusal;
 use totals::asked::{done_total, steps_asked, yields_asked};
 
@@ -18,10 +18,11 @@ use totals::asked::{done_total, steps_asked, yields_asked};
 pub const DONE_LIMIT: u64 = 65535;
 
 /// The fewest findings that the memory of a survey holds: one of each cause at each of 64 places.
-pub const FINDINGS_NEEDED: usize = 192;
+pub const FINDINGS_NEEDED: usize = 3 * MOST_PLACES;
 
 /// What the marking is to be after an order: a number for each place, and a kind. The calls are lent the
-/// tally beside it, as their rules name them; a struct of both would be taken apart again in each function.
+/// tally and the memory beside it, as their rules name them, and hand net and done row on from the sitting; a
+/// struct of these would be taken apart again in each function.
 #[derive(Clone, Copy)]
 pub struct Target<'a> {
     pub numbers: &'a [u32],

@@ -23,6 +23,8 @@ fn put_yields<N: Net, B: Board>(net: &N, board: &mut B, step: u16)
     }
 }
 
+// A bool and no `Result`: spare is asked for before the input, so that a slot board need not count, and the refusals
+// of a fire have another sequence; both callers know before that the step fires.
 /// Fires the step on the board, where it can be fired and spare holds its yields, and says whether
 /// it did; the board is as it was where it did not.
 pub fn move_blocks<N: Net, B: Board>(net: &N, board: &mut B, step: u16) -> bool

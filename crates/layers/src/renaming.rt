@@ -28,6 +28,7 @@ impl<B: Board> Renaming<B> {
     {
         Renaming {
             below,
+            // an index of the array, so the cast keeps it
             row: array::from_fn(|p| p as u8),
         }
     }

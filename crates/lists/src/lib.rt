@@ -48,6 +48,7 @@ impl<'a, T: Drop> BoundedList<'a, T> {
     }
 
     /// One element more at the end; refused when the memory is full.
+    // `lender` stands in each call that is lent the list: it is about two values of it, which no field can hold
     pub fn add(&mut self, x: T) -> Result<(), Refusal>
         ensures lender { self.new.memory.ghost_name ≡ self.old.memory.ghost_name }
         ensures adds { Adds x self.old.memory.now self.old.len result self.new.memory.now self.new.len }
@@ -75,6 +76,8 @@ pub fn add_found<T: Drop, F: Fn(u16) -> Option<T>>(
     if list.room() < usize::from(end) {
         return Err(Refusal::ListFull);
     }
+    // A loop, since each item is added to the lent list: `try_for_each` would be no plainer, with a `Result` that
+    // is dropped as here.
     for number in 0..end {
         if let Some(item) = find(number) {
             let _ = list.add(item);

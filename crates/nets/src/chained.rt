@@ -56,6 +56,7 @@ fn begin(file: &[u8], arc: u32) -> usize
     ensures is { result ≡ arc_begin file.now arc }
     ensures bound { result < 2 ^ 40 }
 {
+    // a cast, since a `u32` has no `From` into a `usize`
     3 * usize::from(byte_at(file, 1)) + 4 * arc as usize
 }
 
@@ -106,6 +107,7 @@ pub fn file_end(file: &[u8]) -> usize
 }
 
 /// The checks of the head, and of the length where the file is to have so many bytes.
+// Beside that of the grid net: this head has two bytes more and one check more, and they share nothing else.
 pub fn check_head_to(file: &[u8], end: usize) -> Result<(), Refusal>
     ensures { result ≡ answered (head_refusal file.now end) tt }
 {
@@ -147,6 +149,7 @@ fn chain_yield(file: &[u8], first: u16, place: u8) -> u8
     ensures { result ≡ chain_yield file.now (chained_arcs file.now) first place }
 {
     let mut arc = u32::from(first);
+    // A chain is no iterator: the turns are counted, so that the walk is seen to end.
     for _seen in 0..arcs(file) {
         if arc == 0 {
             return 0;
@@ -159,6 +162,8 @@ fn chain_yield(file: &[u8], first: u16, place: u8) -> u8
     0
 }
 
+// `new` and `load` stand in both makes of net: a trait for them would be no plainer, as each clause names the
+// definition of its own format.
 impl<'a> ChainedNet<'a> {
     /// A net of one place and no steps.
     pub fn new() -> ChainedNet<'a>

@@ -17,5 +17,6 @@ pub fn inputs_of<N: Net>(net: &N) -> [u8; MOST_STEPS]
     ensures answer { (t : ℕ) → at result t ≡ (N.meaning net.now).net.input t }
     ensures inside { (t : ℕ) → at result t < 64 }
 {
+    // an index of the array, so the cast keeps it
     array::from_fn(|step| input_of(net, step as u16))
 }

@@ -28,12 +28,13 @@ pub(crate) fn fire_first_order<N: Net, B: Board>(
     requires can { Realizable (N.meaning net.now).net (B.counts board.old) (at tally.now) }
     requires room { yields_asked (N.meaning net.now).net (at tally.now) ≤ B.spare board.old }
     requires long { steps_asked (N.meaning net.now).net (at tally.now) ≤ length memory.old }
-    ensures answer { result ≡ length (first_order (N.meaning net.now).net (B.counts board.old) (at tally.now)) }
-    ensures memory { memory.new ≡ written (first_order (N.meaning net.now).net (B.counts board.old) (at tally.now)) memory.old }
-    ensures counts { B.counts board.new ≡ after (N.meaning net.now).net (B.counts board.old) (first_order (N.meaning net.now).net (B.counts board.old) (at tally.now)) }
+    ensures answer { let first = first_order (N.meaning net.now).net (B.counts board.old) (at tally.now) in result ≡ length first }
+    ensures memory { let first = first_order (N.meaning net.now).net (B.counts board.old) (at tally.now) in memory.new ≡ written first memory.old }
+    ensures counts { let first = first_order (N.meaning net.now).net (B.counts board.old) (at tally.now) in B.counts board.new ≡ after (N.meaning net.now).net (B.counts board.old) first }
     ensures spare { B.spare board.new ≡ (B.spare board.old + steps_asked (N.meaning net.now).net (at tally.now)) - yields_asked (N.meaning net.now).net (at tally.now) }
 {
     let mut order = BoundedList::new(memory);
+    // Turns are counted, since the order has as many steps as the tally asks for: so the loop is seen to end.
     for _ in 0..steps_asked(net, tally) {
         if let Some(step) = schedule.next_step() {
             let _ = move_blocks(net, board, step);

@@ -39,6 +39,8 @@ impl PlaceSet {
         requires { F.IsAlwaysCallable test }
         ensures { (b : ℕ → Bool) → ((p : ℕ) (r : Bool) → p < end → F.post test p r → r ≡ b p) → (p : ℕ) → has result p ≡ (nat_lt p end && (nat_lt p 64 && b p)) }
     {
+        // A `fold` after a `filter` is proved by what the closure gives each turn, which stayed open for sets where it
+        // was tried (the leads of a place).
         let mut places = PlaceSet::empty();
         for place in 0..end {
             if test(place) {
@@ -108,6 +110,7 @@ impl PlaceSet {
         ensures answer { result ≡ first_place self }
         ensures cases { MatchOption result (Empty self) (IsFirst self) }
     {
+        // at most 63 where the word is not 0, so the cast keeps it
         (!self.is_empty()).then(|| self.word.trailing_zeros() as u8)
     }
 }

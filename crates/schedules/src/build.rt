@@ -23,6 +23,7 @@ fn yields_at<N: Net>(net: &N, step: u16) -> PlaceSet
 fn yields_of<N: Net>(net: &N) -> [PlaceSet; MOST_STEPS]
     ensures { (t p : ℕ) → has_at result t p ≡ nat_lt 0 ((N.meaning net.now).net.yields t p) }
 {
+    // an index of the array, so the cast keeps it
     array::from_fn(|step| yields_at(net, step as u16))
 }
 
@@ -67,9 +68,24 @@ impl Schedule {
     fn rebuild_all(&mut self)
         ensures { AllRebuilt self.old 64 self.new }
     {
-        for place in 0..PLACES as u8 {
-            self.rebuild(place);
-        }
+        self.leads = self.all_leads();
+        self.takers = self.all_takers();
+    }
+
+    /// Where the steps that are left and take at each place yield.
+    fn all_leads(&self) -> [PlaceSet; PLACES]
+        ensures { (q p : ℕ) → q < 64 → has_at result q p ≡ leads_in self.now q p }
+    {
+        // an index of the array, so the cast keeps it
+        array::from_fn(|place| self.leads_from(place as u8))
+    }
+
+    /// How many steps that are left take at each place.
+    fn all_takers(&self) -> [u8; PLACES]
+        ensures { (q : ℕ) → q < 64 → at result q ≡ takers_in self.now q }
+    {
+        // an index of the array, so the cast keeps it
+        array::from_fn(|place| self.takers_at(place as u8))
     }
 
     /// Finds anew what the steps that are left and take at a place lead to, and how many they are.
@@ -85,7 +101,7 @@ impl Schedule {
     fn leads_from(&self, place: u8) -> PlaceSet
         ensures { (p : ℕ) → has result p ≡ leads_in self.now place p }
     {
-        // No plainer as a `fold`: its closure would hold the same test and give the set back in both arms.
+        // `filter` and `fold` over the range were tried: what the sets add up to stayed open.
         let mut leads = PlaceSet::empty();
         for step in 0..self.steps {
             if self.takes(step, place) {

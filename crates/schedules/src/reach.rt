@@ -21,7 +21,7 @@ impl Schedule {
     fn used(&self) -> PlaceSet
         ensures { (p : ℕ) → has result p ≡ in_use self.now p }
     {
-        // No plainer as a `fold`: its closure would hold the same test and give the set back in both arms.
+        // As in `leads_from`: what sets add up to in a `fold` stayed open.
         let mut used = PlaceSet::empty();
         for step in 0..self.steps {
             if self.times_left(step) > 0 {

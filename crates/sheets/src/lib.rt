@@ -15,7 +15,7 @@ use sheet::Sheet;
 use verdict::{ORDER_ENTRIES, find_order};
 
 /// The longest line: `ok`, 4,096 steps of three digits, each after a space, and the line's end.
-pub const LONGEST_LINE: usize = 16387;
+pub const LONGEST_LINE: usize = 3 + 4 * ORDER_ENTRIES;
 
 /// Judges a sheet: writes its line from the front of the text memory, alters no more of it, and answers
 /// the line's length. Refused only where the memory is too short for the line.

@@ -33,7 +33,8 @@ impl<N: Net, B: Board> Sitting<N, B> {
         if done_total(&self.done) + 1 > DONE_LIMIT {
             return Err(Refusal::DoneLimit);
         }
-        // Asked here and not taken from what `move_blocks` says: each refusal is promised, in this order.
+        // Asked here and not taken from what `move_blocks` says, which asks for spare first: each refusal is promised,
+        // in this order.
         if self.board.count(input) == 0 {
             return Err(Refusal::InputEmpty(input));
         }

@@ -40,6 +40,7 @@ impl SlotBoard {
     {
         SlotBoard {
             slots: [EMPTY; SLOTS],
+            // a cast, since a `usize` has no `From` into a `u32`
             free: SLOTS as u32,
         }
     }
@@ -73,7 +74,7 @@ fn fit(slots: &[u8; SLOTS]) -> bool
     slots.iter().all(|held| *held <= HIGHEST)
 }
 
-// how many slots hold the number
+// how many slots hold the number; at most all of them, so the cast keeps it
 fn count_of(slots: &[u8; SLOTS], held: u8) -> u32
     ensures { result ≡ occurs held slots.now }
 {

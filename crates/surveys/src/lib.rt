@@ -44,6 +44,7 @@ pub fn list_findings<'a, N: Net, B: Board>(
     let places = u16::from(net.places());
     let cut_off = Schedule::new(net, &counts, tally).cut_off();
     let mut findings = BoundedList::new(memory);
+    // a number below the places, a byte, so the casts keep it
     let _ = add_found(&mut findings, places, |place| short_at(&asked, place as u8));
     let _ = add_found(
         &mut findings,

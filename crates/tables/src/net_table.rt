@@ -13,8 +13,8 @@ use nets::net::{MOST_PLACES, MOST_STEPS, Net};
 pub struct NetTable {
     places: u8,
     steps: u16,
-    // Two rows by step and not one of structs: a struct for both would be no plainer, as the row of the
-    // inputs is read whole from the net.
+    // Two rows by step and not one of structs, which would be no plainer: `inputs_of` gives the first row whole, for
+    // schedules too.
     inputs: [u8; MOST_STEPS],
     yields: [[u8; MOST_PLACES]; MOST_STEPS],
     // Six fields and not one with the whole law: that names a place where a step yields, so it may hold

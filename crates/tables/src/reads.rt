@@ -14,6 +14,7 @@ fn read_row<N: Net>(net: &N, step: u16) -> [u8; MOST_PLACES]
         return [0; MOST_PLACES];
     }
     let places = net.places();
+    // an index of the array, so the cast keeps it
     array::from_fn(|place| if place < usize::from(places) {
         net.yield_at(step, place as u8)
     } else {
@@ -25,6 +26,7 @@ fn read_row<N: Net>(net: &N, step: u16) -> [u8; MOST_PLACES]
 pub(crate) fn read_yields<N: Net>(net: &N) -> [[u8; MOST_PLACES]; MOST_STEPS]
     ensures { (t p : ℕ) → t < (N.meaning net.now).net.steps → p < (N.meaning net.now).net.places → cell result t p ≡ (N.meaning net.now).net.yields t p }
 {
+    // an index of the array, so the cast keeps it
     array::from_fn(
         |step| -> [u8; MOST_PLACES]
             requires { step < 128 }

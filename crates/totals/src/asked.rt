@@ -15,6 +15,8 @@ fn times(row: &[u16], step: u16) -> u16
     row.get(usize::from(step)).copied().unwrap_or(0)
 }
 
+// Each total states its bound, of one number, so that a caller can add two.
+
 /// How many steps the tally asks for.
 pub fn steps_asked<N: Net>(net: &N, tally: &[u16]) -> u64
     ensures answer { result ≡ steps_asked (N.meaning net.now).net (at tally.now) }
@@ -28,6 +30,7 @@ pub fn done_total(done: &[u16]) -> u64
     ensures answer { result ≡ sum_to (at done.now) 128 }
     ensures bound { result < 2 ^ 48 }
 {
+    // a constant that fits, so the cast keeps it
     sum_below(MOST_STEPS as u16, |step| u32::from(times(done, step)))
 }
 
@@ -36,6 +39,7 @@ pub fn yields_of<N: Net>(net: &N, step: u16) -> u32
     ensures answer { result ≡ yields_of (N.meaning net.now).net step }
     ensures bound { result < 2 ^ 14 }
 {
+    // both casts keep the number: a place is a byte, and the sum is below 2^14
     sum_below(
         u16::from(net.places()),
         |place| u32::from(net.yield_at(step, place as u8)),

@@ -50,6 +50,7 @@ impl<N: Net> Asked<'_, N> {
         ensures answer { result ≡ final_number (N.meaning self.now.net.now).net (at self.now.counts.now) (at self.now.tally.now) place }
         ensures bound { (neg_ℤ (pos (2 ^ 48)) <ℤ result) × (result <ℤ pos (2 ^ 49)) }
     {
+        // both are below 2^49, so the casts keep them
         self.has_and_gains(place) as i64 - spent(self.net, self.tally, place) as i64
     }
 
@@ -72,6 +73,8 @@ impl<N: Net> Asked<'_, N> {
     {
         self.final_number(place) - i64::from(self.wanted(place))
     }
+
+    // The two below are one call each, with another test; their casts keep a number below the places, a byte.
 
     /// The least short place.
     pub fn least_short(&self) -> Option<u8>

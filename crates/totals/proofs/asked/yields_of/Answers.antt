@@ -1,4 +1,4 @@
-use Rattle.std.proofs.Common.{◌≡◌, ℕ, Bool, rules, ap, ◌∙◌, arith}
+use Rattle.std.proofs.Common.{◌≡◌, rules, ap, ◌∙◌, arith}
 use Rattle.answers.specs.States.{yields_of}
 use Rattle.theory.specs.Sums.{sum_to}
 use Rattle.totals.proofs.Bounds.{yields_few}
