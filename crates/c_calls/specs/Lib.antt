@@ -1,0 +1,2 @@
+pub mod Said
+pub mod NewSittings

@@ -1,0 +1,28 @@
+//! A resume on a new sitting.
+ghost use Rattle.c_calls.specs.NewSittings.{NewResumed};
+ghost use Rattle.checks.specs.Held.{target_of};
+
+use boards::count_board::CountBoard;
+use checks::Target;
+use nets::chained::ChainedNet;
+use refusals::Refusal;
+use sittings::sitting::Sitting;
+
+/// Resumes the tally on a new sitting with the net of the file and a count board with these counts and this
+/// spare, and answers the order's length.
+pub(crate) fn resume_new(
+    file: &[u8],
+    counts: &[u32],
+    spare: u32,
+    tally: &[u16],
+    target: Target<'_>,
+    order: &mut [u16],
+) -> Result<usize, Refusal>
+    ensures { NewResumed file.now counts.now spare tally.now (target_of target.entry.numbers.now target.entry.kind) order.old result order.new }
+{
+    let net = ChainedNet::try_from(file)?;
+    let mut board = CountBoard::new();
+    board.load(counts, spare)?;
+    let mut sitting = Sitting::new(net, board);
+    sitting.resume(tally, target, order)
+}
