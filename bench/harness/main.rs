@@ -14,7 +14,10 @@ mod timing;
 use std::process::ExitCode;
 
 fn main() -> ExitCode {
-    let families = families::all();
+    // an argument asks for the families with this in their names alone
+    let wanted = std::env::args().nth(1).unwrap_or_default();
+    let mut families = families::all();
+    families.retain(|family| family.name.contains(&wanted));
     if let Err(difference) = agreement::check(&families) {
         eprintln!("bench: {difference}");
         return ExitCode::from(1);
