@@ -1,8 +1,8 @@
 //! What stands in rows of words.
 #![tactic(auto)]
 
-ghost use Rattle.std.specs.Prelude.{◌≡◌, ◌⊎◌, codes, length, IfOk};
-ghost use Rattle.hex.specs.Hex.{decode_of};
+ghost use Rattle.std.specs.Prelude.{◌≡◌, ◌<◌, ◌⊎◌, ℕ, Ok, [], codes, length, slice_index_or, IfOk};
+ghost use Rattle.hex.specs.Hex.{decode_of, encode_lower};
 ghost use Rattle.rows.specs.Faults.{understood_of};
 ghost use Rattle.rows.specs.Slots.{slots_of};
 ghost use Rattle.rows.specs.declared.Fault.{Fault};
@@ -53,7 +53,8 @@ pub fn numbers<T: FromStr + Drop, E: From<T::Err> + From<AllocError> + Drop>(
     alloc: Global,
     words: &[&str],
 ) -> Result<Vec<T>, E>
-    ensures { IfOk result (λ all. length all.items ≡ length words.now) }
+    ensures count { IfOk result (λ all. length all.items ≡ length words.now) }
+    ensures each { IfOk result (λ all. (k : ℕ) (word : _) (number : T) → k < length words.now → T.from_str_gives (slice_index_or words.now k word).now (Ok (slice_index_or all.items k number))) }
 {
     words
         .iter()
@@ -61,14 +62,26 @@ pub fn numbers<T: FromStr + Drop, E: From<T::Err> + From<AllocError> + Drop>(
         .try_collect(alloc)
 }
 
+/// The bytes that hexadecimal digits write down; letters among them stand in lower case.
+pub fn bytes_of(alloc: Global, digits: &str) -> anyhow::Result<Vec<u8>>
+    ensures bytes { IfOk result (λ bytes. decode_of digits.now ≡ Ok bytes.items) }
+    ensures lower { IfOk result (λ bytes. digits.now ≡ encode_lower bytes.items) }
+{
+    let bytes = hex::decode(alloc, digits)?;
+    let lower = hex::encode(alloc, bytes.as_slice())?;
+    ensure!(lower.as_str() == digits, "a digit in upper case");
+    Ok(bytes)
+}
+
 /// The bytes of a file that hexadecimal digits write down; none for `-`.
 pub fn file_of(alloc: Global, digits: &str) -> anyhow::Result<Vec<u8>>
-    ensures { IfOk result (λ file. (digits.now ≡ codes "-") ⊎ (decode_of digits.now ≡ Ok file.items)) }
+    ensures bytes { IfOk result (λ file. ((digits.now ≡ codes "-") × (file.items ≡ [])) ⊎ (decode_of digits.now ≡ Ok file.items)) }
+    ensures lower { IfOk result (λ file. ((digits.now ≡ codes "-") × (file.items ≡ [])) ⊎ (digits.now ≡ encode_lower file.items)) }
 {
     if digits == "-" {
         return Ok(Vec::new(alloc));
     }
-    Ok(hex::decode(alloc, digits)?)
+    bytes_of(alloc, digits)
 }
 
 /// The slots of runs, each a length and what its slots hold.

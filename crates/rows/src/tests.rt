@@ -1,5 +1,5 @@
 //! Numbers, bytes and slots of words, by example.
-use crate::{file_of, numbers, slots_of};
+use crate::{bytes_of, file_of, numbers, slots_of};
 
 #[test]
 fn words_are_numbers(rt: HostRuntime) -> anyhow::Result<()> {
@@ -12,6 +12,22 @@ fn words_are_numbers(rt: HostRuntime) -> anyhow::Result<()> {
 fn digits_are_bytes(rt: HostRuntime) -> anyhow::Result<()> {
     let file = file_of(rt.alloc(), "00ff")?;
     assert_eq!(rt; file.as_slice(), [0u8, 255].as_slice());
+    Ok(())
+}
+
+#[test]
+fn only_a_file_may_be_a_stroke(rt: HostRuntime) -> anyhow::Result<()> {
+    assert!(rt; file_of(rt.alloc(), "-")?.is_empty());
+    assert!(rt; bytes_of(rt.alloc(), "-").is_err());
+    Ok(())
+}
+
+#[test]
+fn digits_stand_in_lower_case(rt: HostRuntime) -> anyhow::Result<()> {
+    let bytes = bytes_of(rt.alloc(), "0aff")?;
+    assert_eq!(rt; bytes.as_slice(), [10u8, 255].as_slice());
+    assert!(rt; bytes_of(rt.alloc(), "0AFF").is_err());
+    assert!(rt; file_of(rt.alloc(), "0aFf").is_err());
     Ok(())
 }
 

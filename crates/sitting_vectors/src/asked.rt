@@ -1,13 +1,13 @@
 //! What the lines of the table ask for.
 use anyhow::bail;
 use boards::board::PLACES;
-use rows::{file_of, numbers, slots_of};
+use rows::{bytes_of, numbers, slots_of};
 use std::alloc::Global;
 use std::num::ParseIntError;
 use std::str::FromStr;
 
-/// What a resume or a survey is given, and how long its memory is. That of `handovers` would be no plainer
-/// here, where each call is made by itself.
+/// What a resume or a survey is given, and how long its memory is. `Request` of `handovers` has the same four
+/// fields, but how it makes a target is not public, and this program uses nothing else of `handovers`.
 #[derive(Drop)]
 pub(crate) struct Request {
     pub(crate) memory: usize,
@@ -50,8 +50,8 @@ pub(crate) fn read(alloc: Global, asked: &str) -> anyhow::Result<Option<Asked>> 
 /// A net file, of either make.
 fn net_of(alloc: Global, rest: &str) -> anyhow::Result<Option<Asked>> {
     match rest.split_once(' ') {
-        Some(("grid", digits)) => Ok(Some(Asked::Grid(file_of(alloc, digits)?))),
-        Some(("chained", digits)) => Ok(Some(Asked::Chained(file_of(alloc, digits)?))),
+        Some(("grid", digits)) => Ok(Some(Asked::Grid(bytes_of(alloc, digits)?))),
+        Some(("chained", digits)) => Ok(Some(Asked::Chained(bytes_of(alloc, digits)?))),
         _ => Ok(None),
     }
 }
