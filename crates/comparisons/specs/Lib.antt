@@ -1,3 +1,4 @@
 pub mod Counted
 pub mod Digests
+pub mod Shown
 pub mod Sides

@@ -1,14 +1,17 @@
 //! How many calls were accepted and refused.
-ghost use Rattle.std.specs.Prelude.{◌≡◌, ◌≢◌, ℕ, not, Some, OnOk, []};
+ghost use Rattle.std.specs.Prelude.{◌≡◌, ◌≢◌, ℕ, not, Some, IfOk, OnOk, []};
 ghost use Rattle.std.specs.Ordering.{nat_cmp};
 ghost use Rattle.std.specs.BTreeMap.{get};
+ghost use Rattle.std.specs.String.{string_bytes};
 ghost use Rattle.refusals.specs.Refusals.{number_of};
 ghost use Rattle.comparisons.specs.Counted.{count_at, counted, one_more};
+ghost use Rattle.comparisons.specs.Shown.{count_lines, shown_outcomes};
 
 use refusals::Refusal;
 use std::alloc::{AllocError, Global};
 use std::collections::BTreeMap;
-use std::{fmt, io};
+use std::fmt;
+use std::fmt::Write;
 
 /// How many calls were accepted, and how many were refused.
 #[derive(Clone, Copy, Default)]
@@ -38,6 +41,8 @@ impl Outcomes {
 }
 
 impl fmt::Display for Outcomes {
+    ghost output = { λ outcomes. Some (shown_outcomes outcomes) };
+
     fn fmt<W: fmt::Write>(&self, f: &mut fmt::Formatter<W>) -> fmt::Result {
         let accepted = self.accepted;
         let refused = self.refused;
@@ -73,12 +78,15 @@ impl Refused {
         self.counts.get(&number).copied().unwrap_or(0)
     }
 
-    /// Prints a line for each of the numbers.
-    pub fn print(&self, rt: &impl Print, numbers: &[u8]) -> io::Result<()> {
+    /// A line for each of the numbers, with how many calls were refused with it.
+    pub fn lines(&self, alloc: Global, numbers: &[u8]) -> Result<String, AllocError>
+        ensures { IfOk result (λ lines. string_bytes lines ≡ count_lines self.now.counts numbers.now) }
+    {
+        let mut lines = String::new(alloc);
         for number in numbers {
             let count = self.count(*number);
-            println!(rt; "refusal {number}: {count}")?;
+            writeln!(lines, "refusal {number}: {count}")?;
         }
-        Ok(())
+        Ok(lines)
     }
 }

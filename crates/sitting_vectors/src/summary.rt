@@ -4,7 +4,7 @@ use refusals::Refusal;
 use std::alloc::{AllocError, Global};
 use std::io;
 
-/// The refusals of a sitting.
+/// The refusals of a sitting, by number, as they are counted: those of the enum have places with them.
 const OF_SITTINGS: [u8; 10] = [7, 8, 9, 10, 11, 12, 13, 14, 15, 21];
 
 /// What was counted so far.
@@ -50,7 +50,8 @@ impl Totals {
         self.count_refusal(done.err())
     }
 
-    /// What a resume answered.
+    /// What a resume answered. `survey` has the same lines for two other fields: one function for both would take the
+    /// two fields, and be no shorter.
     pub(crate) fn resume(&mut self, done: Result<usize, Refusal>) -> Result<(), AllocError> {
         self.resumes.add(done.is_ok());
         self.longest_order = self.longest_order.max(done.unwrap_or(0));
@@ -82,7 +83,8 @@ impl Totals {
         println!(rt; "resume: {resumes}")?;
         let surveys = self.surveys;
         println!(rt; "survey: {surveys}")?;
-        self.refused.print(rt, &OF_SITTINGS)?;
+        let refused = self.refused.lines(rt.alloc(), &OF_SITTINGS)?;
+        print!(rt; "{refused}")?;
         let order = self.longest_order;
         println!(rt; "longest order: {order}")?;
         let findings = self.most_findings;

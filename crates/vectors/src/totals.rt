@@ -4,7 +4,7 @@ use comparisons::outcomes::{Outcomes, Refused};
 use std::alloc::Global;
 use std::io;
 
-/// The refusals of a net file.
+/// The refusals of a net file, by number, as they are counted: those of the enum have places and steps with them.
 const OF_FILES: [u8; 6] = [1, 2, 3, 4, 5, 6];
 
 /// What was counted so far.
@@ -30,7 +30,8 @@ impl Totals {
     pub(crate) fn print(&self, rt: &HostRuntime) -> io::Result<()> {
         print_files(rt, "grid", self.grid)?;
         print_files(rt, "chained", self.chained)?;
-        self.refused.print(rt, &OF_FILES)?;
+        let refused = self.refused.lines(rt.alloc(), &OF_FILES)?;
+        print!(rt; "{refused}")?;
         let differences = self.comparison.differing;
         println!(rt; "{differences} differences")
     }
