@@ -24,7 +24,7 @@ impl Base for CountBoard {
     }
 
     fn kept(&self) -> Digest {
-        digest_of(&all_counts(self))
+        Digest::of(&all_counts(self))
     }
 }
 
@@ -37,12 +37,6 @@ impl Base for SlotBoard {
     }
 
     fn kept(&self) -> Digest {
-        digest_of(self.slots())
+        Digest::of(self.slots())
     }
-}
-
-fn digest_of<T: Copy + Into<u32>>(numbers: &[T]) -> Digest {
-    let mut digest = Digest::new();
-    digest.add_all(numbers);
-    digest
 }

@@ -31,8 +31,8 @@ impl<'a> Table<'a> {
         board: &B,
         answer: Answer,
     ) -> anyhow::Result<()> {
-        let mut state = Digest::new();
-        state.add_all(&all_counts(board));
+        // `sitting_vectors` begins its digests with these two lines too: `comparisons`, which both share, knows no boards
+        let mut state = Digest::of(&all_counts(board));
         state.add(board.spare());
         let state = state.value;
         let here = format!(in self.alloc(); "{answer} {state}")?;

@@ -20,6 +20,15 @@ impl Digest {
         Digest { value: START }
     }
 
+    /// The digest of numbers, each with four bytes.
+    pub fn of<T: Copy + Into<u32>>(numbers: &[T]) -> Digest
+        ensures { (n : T → ℕ) → ((t : T) (k : ℕ) → T.converts t k → k ≡ n t) → result.value ≡ after_numbers first_value (map n numbers.now) }
+    {
+        let mut digest = Digest::new();
+        digest.add_all(numbers);
+        digest
+    }
+
     /// Adds bytes.
     pub fn add_bytes(&mut self, bytes: &[u8])
         ensures { self.new.value ≡ after_bytes self.old.value bytes.now }
