@@ -47,8 +47,8 @@ pub fn next_line<'a>(lines: &'a [Line<'a>]) -> (Line<'a>, &'a [Line<'a>])
 impl Comparison {
     /// Counts a line of the table by whether the answer in it is the one here, and says whether it is.
     pub fn compare(&mut self, expected: &str, here: &str) -> bool
-        ensures same { here.now ≡ expected.now → (result ≡ true) × (self.new ≡ record self.old { agreed = one_more self.old.agreed }) }
-        ensures other { here.now ≢ expected.now → (result ≡ false) × (self.new ≡ record self.old { differing = one_more self.old.differing }) }
+        ensures agrees { here.now ≡ expected.now → (result ≡ true) × (self.new ≡ record self.old { agreed = one_more self.old.agreed }) }
+        ensures differs { here.now ≢ expected.now → (result ≡ false) × (self.new ≡ record self.old { differing = one_more self.old.differing }) }
     {
         let is_same = here == expected;
         if is_same {
