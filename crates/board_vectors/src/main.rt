@@ -12,7 +12,7 @@ use asked::read;
 use base::Base;
 use boards::count_board::CountBoard;
 use calls::Answer;
-use comparisons::comparison::{Line, next_line};
+use comparisons::comparison::{Line, compare_all, next_line};
 use on_pile::{Full, OnPile, Under};
 use slot_board::SlotBoard;
 use std::io;
@@ -24,43 +24,33 @@ fn main(rt: HostRuntime) -> anyhow::Result<()> {
     let text = io::read_to_string(rt.alloc(), rt.stdin())?;
     let lines: Vec<Line<'_>> = text.as_str().lines().map(Line::from).collect(rt.alloc())?;
     let mut table = Table::new(&rt);
-    let left = compare_all(&mut table, lines.as_slice())?;
+    let left = compare_all(
+        lines.as_slice(),
+        |new, others| compare(&mut table, new, others),
+    )?;
     Ok(table.report(left)?)
 }
 
-/// Compares the lines of one pile after the other, up to one that makes no board; answers how many are
-/// left from there on.
-// It stands in both programs that read tables of piles: a shared one would be no plainer, as it would take a trait
-// for their tables.
-fn compare_all(table: &mut Table<'_>, lines: &[Line<'_>]) -> anyhow::Result<usize> {
-    // a count and no slice: the borrow checker does not cover a loop whose slice is what a call gave
-    let mut left = lines.len();
-    while let [first, others @ ..] = &lines[lines.len() - left..] {
-        let Some(after) = compare(table, first, others)? else {
-            break;
-        };
-        left = after.len();
-    }
-    Ok(left)
-}
-
-/// Compares the lines of a pile and gives those that are left; nothing where the first makes no board.
+/// Compares the lines of a pile and gives how many are left; nothing where the first makes no board.
 fn compare<'a>(
     table: &mut Table<'_>,
     new: &Line<'_>,
     lines: &'a [Line<'a>],
-) -> anyhow::Result<Option<&'a [Line<'a>]>>
-    ensures { IfOk result (λ left. IfSome left (λ left. length left.now ≤ length lines.now)) }
+) -> anyhow::Result<Option<usize>>
+    ensures { IfOk result (λ left. IfSome left (λ left. left ≤ length lines.now)) }
 {
-    match new.asked {
-        "new counts" => Ok(Some(on_board(table, new, lines, CountBoard::new())?)),
-        "new slots" => Ok(Some(on_board(table, new, lines, SlotBoard::new())?)),
-        _ => Ok(None),
-    }
+    let left = match new.asked {
+        "new counts" => on_board(table, new, lines, CountBoard::new())?,
+        "new slots" => on_board(table, new, lines, SlotBoard::new())?,
+        _ => return Ok(None),
+    };
+    Ok(Some(left.len()))
 }
 
 /// The loads of a new board, the lines on its pile, and what the board keeps in the end; gives the lines
 /// that are left.
+// That no more lines are left than came stands at each function that gives lines back: the loop of
+// `compare_all` ends by it, and a proof knows of a callee only what its clauses say.
 fn on_board<'a, B: Base + Drop>(
     table: &mut Table<'_>,
     new: &Line<'_>,

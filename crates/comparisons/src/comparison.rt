@@ -1,5 +1,5 @@
 //! The lines of a table, and how many of their answers agree.
-ghost use Rattle.std.specs.Prelude.{◌≡◌, ◌≢◌, ◌<◌, ◌+◌, min, length, drop, [], ◌∷◌, true, false};
+ghost use Rattle.std.specs.Prelude.{◌≡◌, ◌≢◌, ◌<◌, ◌≤◌, ◌+◌, ◌-◌, Ok, None, IfOk, IfSome, min, length, drop, [], ◌∷◌, true, false};
 ghost use Rattle.comparisons.specs.Counted.{one_more};
 ghost use Rattle.comparisons.specs.Sides.{HasSides};
 
@@ -42,6 +42,28 @@ pub fn next_line<'a>(lines: &'a [Line<'a>]) -> (Line<'a>, &'a [Line<'a>])
         [line, left @ ..] => (*line, left),
         [] => (Line::from(""), lines),
     }
+}
+
+/// Compares the lines, those of one part after the other, up to where the closure compares none; gives how many are
+/// left from there on.
+pub fn compare_all<'a, E: Drop, F: FnMut(&Line<'a>, &'a [Line<'a>]) -> Result<Option<usize>, E>>(
+    lines: &'a [Line<'a>],
+    mut compare: F,
+) -> Result<usize, E>
+    requires callable { F.IsAlwaysCallable compare }
+    requires fewer { (state : F) (line : _) (others : _) (r : _) (after : F) → F.step state line others r after → IfOk r (λ left. IfSome left (λ left. left ≤ length others.now)) }
+    ensures within { IfOk result (λ left. left ≤ length lines.now) }
+    ensures stopped { IfOk result (λ left. 0 < left → (state : F) × (line : _) × (others : _) × (after : F) × F.step state line others (Ok None) after × (drop (length lines.now - left) lines.now ≡ line.now ∷ others.now)) }
+{
+    // a count and no slice: the borrow checker does not cover a loop whose slice is what a call gave
+    let mut left = lines.len();
+    while let [first, others @ ..] = &lines[lines.len() - left..] {
+        let Some(after) = compare(first, others)? else {
+            break;
+        };
+        left = after;
+    }
+    Ok(left)
 }
 
 impl Comparison {

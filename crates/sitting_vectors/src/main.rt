@@ -14,7 +14,7 @@ use asked::{Asked, read};
 use boards::board::Board;
 use boards::count_board::CountBoard;
 use calls::{Answer, all_counts};
-use comparisons::comparison::{Line, next_line};
+use comparisons::comparison::{Line, compare_all, next_line};
 use comparisons::digest::Digest;
 use nets::chained::ChainedNet;
 use nets::grid::GridNet;
@@ -31,46 +31,32 @@ fn main(rt: HostRuntime) -> anyhow::Result<()> {
     let text = io::read_to_string(rt.alloc(), rt.stdin())?;
     let lines: Vec<Line<'_>> = text.as_str().lines().map(Line::from).collect(rt.alloc())?;
     let mut table = Table::new(&rt);
-    let left = compare_all(&mut table, lines.as_slice())?;
+    let left = compare_all(
+        lines.as_slice(),
+        |line, others| compare(&mut table, line, others),
+    )?;
     Ok(table.report(left)?)
 }
 
-/// Compares the lines of one net after the other, up to one that is no net file; answers how many are
-/// left from there on.
-// It stands in both programs that read tables of piles: a shared one would be no plainer, as it would take a trait
-// for their tables.
-fn compare_all(table: &mut Table<'_>, lines: &[Line<'_>]) -> anyhow::Result<usize> {
-    // a count and no slice: the borrow checker does not cover a loop whose slice is what a call gave
-    let mut left = lines.len();
-    while let [first, others @ ..] = &lines[lines.len() - left..] {
-        let Some(after) = compare(table, first, others)? else {
-            break;
-        };
-        left = after.len();
-    }
-    Ok(left)
-}
-
-/// Compares the lines of one net and gives those that are left; nothing where the first is no net file.
+/// Compares the lines of one net and gives how many are left; nothing where the first is no net file.
 fn compare<'a>(
     table: &mut Table<'_>,
     line: &Line<'_>,
     lines: &'a [Line<'a>],
-) -> anyhow::Result<Option<&'a [Line<'a>]>>
-    ensures { IfOk result (λ left. IfSome left (λ left. length left.now ≤ length lines.now)) }
+) -> anyhow::Result<Option<usize>>
+    ensures { IfOk result (λ left. IfSome left (λ left. left ≤ length lines.now)) }
 {
-    match read(table.alloc(), line.asked)? {
-        Some(Asked::Grid(file)) => {
-            Ok(Some(on_file::<GridNet>(table, line, lines, file.as_slice())?))
-        }
-        Some(Asked::Chained(file)) => {
-            Ok(Some(on_file::<ChainedNet>(table, line, lines, file.as_slice())?))
-        }
-        _ => Ok(None),
-    }
+    let left = match read(table.alloc(), line.asked)? {
+        Some(Asked::Grid(file)) => on_file::<GridNet>(table, line, lines, file.as_slice())?,
+        Some(Asked::Chained(file)) => on_file::<ChainedNet>(table, line, lines, file.as_slice())?,
+        _ => return Ok(None),
+    };
+    Ok(Some(left.len()))
 }
 
 /// The line of a net file, and those of its sitting if it is accepted; gives the lines that are left.
+// That no more lines are left than came stands at each function that gives lines back: the loop of
+// `compare_all` ends by it, and a proof knows of a callee only what its clauses say.
 fn on_file<'a, 'f, N: Net + TryFrom<&'f [u8], Error = Refusal> + Drop>(
     table: &mut Table<'_>,
     line: &Line<'_>,
@@ -144,8 +130,6 @@ fn compare_kept<'a, T: Copy + Into<u32>>(
     ensures { IfOk result (λ left. length left.now ≤ length lines.now) }
 {
     let (bottom, left) = next_line(lines);
-    let mut digest = Digest::new();
-    digest.add_all(kept);
-    table.compare(&bottom, Answer::Number(digest.value))?;
+    table.compare(&bottom, Answer::Number(Digest::of(kept).value))?;
     Ok(left)
 }
