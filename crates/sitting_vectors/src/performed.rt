@@ -43,8 +43,8 @@ pub(crate) fn sit<'a, N: Net + Drop, B: Board + Drop>(
 
 /// The counts, the spare and the done row.
 fn digest_of<N: Net, B: Board>(sitting: &Sitting<N, B>) -> Digest {
-    let mut digest = Digest::new();
-    digest.add_all(&all_counts(sitting.board()));
+    // `board_vectors` begins its digests with these two lines too: `comparisons`, which both share, knows no boards
+    let mut digest = Digest::of(&all_counts(sitting.board()));
     digest.add(sitting.board().spare());
     digest.add_all(sitting.done());
     digest
@@ -61,6 +61,8 @@ fn fire<N: Net, B: Board>(
     table.compare_state(line, Answer::from(done), digest_of(sitting))
 }
 
+// `survey` has the same lines: the memory, the call, and what is added to the digest and to the totals differ, so one
+// function for both would take a closure for each of them.
 fn resume<N: Net, B: Board>(
     table: &mut Table<'_>,
     line: &Line<'_>,
@@ -105,10 +107,9 @@ fn target_of(request: &Request) -> Target<'_> {
 }
 
 fn length_of(done: Result<usize, Refusal>) -> Answer {
-    match done {
-        Ok(length) => Answer::Number(u32::try_from(length).unwrap_or(u32::MAX)),
-        Err(refusal) => Answer::Refused(refusal),
-    }
+    done.map_or_else(Answer::Refused, |length| {
+        Answer::Number(u32::try_from(length).unwrap_or(u32::MAX))
+    })
 }
 
 /// Each finding as four numbers: place, cause, and the low and the high half of its number.
@@ -129,7 +130,8 @@ fn refusal_of(finding: Finding) -> Refusal {
     }
 }
 
-/// Order memory before a call: no entry is the number of a step.
+/// Order memory before a call: no entry is the number of a step. The casts here and below make smaller what is proved
+/// to fit, as it is below 56.
 fn order_memory(alloc: Global, length: usize) -> Result<Vec<u16>, AllocError> {
     (0..length).map(|k| 200 + (k % 56) as u16).collect(alloc)
 }
