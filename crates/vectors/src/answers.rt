@@ -23,7 +23,7 @@ impl fmt::Display for Answers {
     }
 }
 
-/// One more number in a digest.
+/// One more number in a digest; the cast makes smaller what is proved to fit, as it is below 65521.
 fn mix(digest: u32, number: u8) -> u32 {
     ((u64::from(digest) * 31 + u64::from(number) + 1) % 65521) as u32
 }
@@ -40,7 +40,7 @@ fn mix_step<N: Net>(net: &N, step: u16, start: u32) -> u32 {
 /// A digest of all answers, for two steps past the last too.
 fn digest_of<N: Net>(net: &N) -> u32 {
     let steps = net.steps();
-    let mut digest = mix(mix(0, net.places()), steps.min(255) as u8);
+    let mut digest = mix(mix(0, net.places()), u8::try_from(steps).unwrap_or(u8::MAX));
     for step in 0..steps.saturating_add(2) {
         digest = mix_step(net, step, digest);
     }
