@@ -76,7 +76,7 @@ fn print_answer(rt: &HostRuntime, answer: Answer) -> io::Result<()> {
 /// Prints a place whose count changed, with a bar for its blocks.
 fn print_change(rt: &HostRuntime, place: usize, before: u32, after: u32) -> anyhow::Result<()> {
     let space = if after > 0 { " " } else { "" };
-    let bar = "#".repeat(rt.alloc(), after.min(WIDEST) as usize)?;
+    let bar = "#".repeat(rt.alloc(), usize::try_from(after.min(WIDEST))?)?;
     let more = if after > WIDEST { "+" } else { "" };
     println!(rt; "  place {place}: {before} -> {after}{space}{bar}{more}")?;
     Ok(())

@@ -60,8 +60,8 @@ pub(crate) fn piles(alloc: Global, text: &str) -> Result<Vec<Pile<'_>>, AllocErr
     Ok(piles)
 }
 
-/// A line without its comment and the spaces around it. The program `handover` has the same: a shared one would
-/// be no plainer, as its clause would only repeat those of `split_once` and `trim`.
+/// A line without its comment and the spaces around it. The program `handover` has the same: it would use nothing
+/// else of `rows`, so the line stands in both.
 fn code_of(line: &str) -> &str {
     let (code, _) = line.split_once('#').unwrap_or((line, ""));
     code.trim()

@@ -22,12 +22,11 @@ impl Number for u32 {
     const MOST: u32 = u32::MAX;
 }
 
-/// A line without its comment and the spaces around it. The program `board` has the same: a shared one would
-/// be no plainer, as its clause would only repeat those of `split_once` and `trim`.
-pub(crate) fn code(text: &str) -> &str {
-    text.split_once('#')
-        .map_or(text, |(before, _)| before)
-        .trim()
+/// A line without its comment and the spaces around it. The program `board` has the same: this one would use nothing
+/// else of `rows`, so the line stands in both.
+pub(crate) fn code(line: &str) -> &str {
+    let (code, _) = line.split_once('#').unwrap_or((line, ""));
+    code.trim()
 }
 
 /// The words of a line; a comma counts as a space.
