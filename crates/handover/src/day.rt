@@ -13,7 +13,7 @@ use handovers::sitting_calls::Call;
 use std::alloc::Global;
 
 /// How many entries memory has before a line says another number: as many as any order has, and as many
-/// as a survey asks for.
+/// as a survey asks for. A constant's value calls no `try_from`, so both are cast: they are proved to fit.
 const SIZES: Sizes = Sizes {
     order: DONE_LIMIT as u16,
     findings: FINDINGS_NEEDED as u16,

@@ -76,6 +76,7 @@ impl SecondBoard {
 fn turned_round() -> [u8; PLACES]
     ensures { (p : ℕ) → p < 64 → slice_index result p ≡ 63 - p }
 {
+    // a cast that makes smaller what is proved to fit: there is no error that `try_from` could give
     array::from_fn(|place| LAST_PLACE - place as u8)
 }
 
