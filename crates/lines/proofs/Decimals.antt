@@ -1,5 +1,6 @@
 -- The digits of a number, and of a row of numbers.
-use Rattle.std.proofs.Common.{◌≡◌, ℕ, ◌+◌, ◌<◌, ◌≤◌, List, [], ◌∷◌, ◌++◌, length, get_or, take, drop, decimal, sym, refl, ap, ◌∙◌, append_assoc, arith, length-append}
+use Rattle.std.proofs.Common.{◌≡◌, ℕ, suc, ◌+◌, ◌*◌, ◌<◌, ◌≤◌, List, [], ◌∷◌, ◌++◌, length, get_or, take, drop, decimal, sym, refl, ap, ◌∙◌, append_assoc, arith, length-append}
+use Rattle.std.proofs.lemmas.Fmt.{length-decimal-le}
 use Rattle.std.proofs.lemmas.List.{append-nil, take_more, take-append-drop}
 use Rattle.lines.specs.Lines.{numbers, words}
 
@@ -27,3 +28,20 @@ front_short row i =
 pub words_long : (word row : List ℕ) → length (words word row) ≡ length word + length (numbers row) + 1
 words_long word row =
     length-append word (numbers row ++ (10 ∷ [])) ∙ omega (arith, length-append (numbers row) (10 ∷ []))
+
+-- numbers of at most three digits take at most four bytes each
+pub numbers_short : (row : List ℕ) → ((i : ℕ) → get_or row i 0 < 1000) → length (numbers row) ≤ 4 * length row
+numbers_short [] small = omega arith
+numbers_short (n ∷ row) small =
+    omega (arith, length-append (32 ∷ decimal n) (numbers row), length-decimal-le 3 n (omega arith) (small 0) (omega (arith, small 0)), numbers_short row (λ i. small (suc i)))
+
+-- two numbers of at most five digits
+pub two_short : (a b : ℕ) → a < 100000 → b < 100000 → length (numbers (a ∷ b ∷ [])) ≤ 12
+two_short a b small small' =
+    omega (
+      arith,
+      length-append (32 ∷ decimal a) (numbers (b ∷ [])),
+      length-append (32 ∷ decimal b) [],
+      length-decimal-le 5 a (omega arith) small (omega (arith, small)),
+      length-decimal-le 5 b (omega arith) small' (omega (arith, small')),
+    )

@@ -1,2 +1,3 @@
-mod Decimals
+pub mod Decimals
 mod Appending
+pub mod Fitting

@@ -1,6 +1,7 @@
 //! Lines: the line of a verdict, written into lent text memory.
 #![tactic(auto)]
 
+ghost use Rattle.std.specs.Prelude.{◌≤◌, length, IsOk};
 ghost use Rattle.lines.specs.Lines.{words, ok_line, no_line, LineWritten};
 
 mod numbers;
@@ -20,9 +21,11 @@ pub fn write_order(text: &mut [u8], order: &[u16]) -> Result<usize, Refusal>
 }
 
 /// Writes the line of a refused sheet from the front of the text memory, and answers its length: `no`, the
-/// refusal's number and its detail. Refused, before anything is written, where the memory is too short.
+/// refusal's number and its detail. Refused, before anything is written, where the memory is too short; 15 bytes are
+/// enough.
 pub fn write_refusal(text: &mut [u8], refusal: Refusal) -> Result<usize, Refusal>
-    ensures { LineWritten (no_line refusal) text.old result text.new }
+    ensures line { LineWritten (no_line refusal) text.old result text.new }
+    ensures fits { 15 ≤ length text.old → IsOk result }
 {
     let numbers = [u16::from(refusal.number()), refusal.detail()];
     write_words(text, b"no", &numbers)
