@@ -2,3 +2,4 @@ mod Filled
 mod Finding
 mod Forms
 mod Judging
+pub mod Reading
