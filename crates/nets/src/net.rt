@@ -1,7 +1,12 @@
 //! A net is whatever answers four questions.
 ghost use Rattle.nets.specs.Answers.{InputIs};
 ghost use Rattle.theory.specs.Nets.{LawfulNet};
-ghost use Rattle.std.specs.Prelude.{◌≡◌};
+ghost use Rattle.place_sets.specs.Flags.{has};
+ghost use Rattle.std.specs.Prelude.{◌≡◌, ℕ, nat_lt};
+ghost use Rattle.theory.specs.Rows.{at};
+
+use place_sets::PlaceSet;
+use std::array;
 
 /// The most places that a net has.
 pub const MOST_PLACES: usize = 64;
@@ -28,4 +33,21 @@ pub trait Net {
     /// How many blocks a step puts down at a place; 0 outside the net.
     fn yield_at(&self, step: u16, place: u8) -> u8
         ensures { result ≡ (meaning self.now).net.yields step place };
+
+    // The two below follow from the four questions. A make of net that finds them in one go answers them by itself.
+
+    /// How many blocks a step puts down at each place.
+    fn yields(&self, step: u16) -> [u8; MOST_PLACES]
+        ensures { (p : ℕ) → at result p ≡ (meaning self.now).net.yields step p }
+    {
+        // an index of the array, so the cast keeps it
+        array::from_fn(|place| self.yield_at(step, place as u8))
+    }
+
+    /// The places at which a step puts blocks down.
+    fn yield_places(&self, step: u16) -> PlaceSet
+        ensures { (p : ℕ) → has result p ≡ nat_lt 0 ((meaning self.now).net.yields step p) }
+    {
+        PlaceSet::passing(self.places(), |place| self.yield_at(step, place) > 0)
+    }
 }
