@@ -1,10 +1,8 @@
--- Tests and counts that a loop builds up, one number after the other.
-use Rattle.std.proofs.Common.{◌≡◌, ℕ, zero, suc, ◌+◌, ◌<◌, ◌≤◌, Bool, true, false, cond, ◌&&◌, ◌||◌, ltb, sym, refl, ap, ◌∙◌, inl, inr, add-one, arith}
-use Rattle.std.proofs.lemmas.Bool.{cases_lt, lt-ltb, le-ltb}
-use Rattle.theory.specs.Nets.{LawfulNet}
-use Rattle.theory.specs.Sums.{sum_to}
+-- Tests that a loop builds up, one number after the other.
+use Rattle.std.proofs.Common.{◌≡◌, ℕ, zero, suc, ◌+◌, ◌<◌, ◌≤◌, Bool, true, false, eqb, ◌&&◌, ◌||◌, ltb, sym, refl, ap, ◌∙◌, inl, inr, add-one, arith}
+use Rattle.std.proofs.lemmas.Bool.{cases_lt, cases_eq, both_ways, lt-ltb, le-ltb, eq-eqb, ne_eqb}
+use Rattle.std.proofs.lemmas.Bool.Decides.{nat_tests}
 use Rattle.theory.specs.Tests.{any_below}
-use Rattle.theory.proofs.SumLaws.{sum_to_suc}
 
 -- PLACES BELOW AN END THAT IS AT MOST 64
 
@@ -13,17 +11,6 @@ below_end n p v few = elim (cases_lt p n) [
   | inl l ↦ ap (λ (z : Bool). ltb p n && (z && v)) (lt-ltb p 64 (omega arith))
   | inr k ↦ ap (λ (z : Bool). z && (ltb p 64 && v)) (le-ltb p n k) ∙ sym (ap (λ (z : Bool). z && v) (le-ltb p n k))
 ]
-
-pub where_yielded : (L : LawfulNet) (t p : ℕ) →
-    (ltb p L.net.places && (ltb p 64 && ltb 0 (L.net.yields t p))) ≡ ltb 0 (L.net.yields t p)
-where_yielded L t p =
-    below_end L.net.places p (ltb 0 (L.net.yields t p)) L.law.few_places
-    ∙ elim (cases_lt p L.net.places) [
-      | inl l ↦ ap (λ (z : Bool). z && ltb 0 (L.net.yields t p)) (lt-ltb p L.net.places l)
-      | inr k ↦
-          ap (λ (z : Bool). z && ltb 0 (L.net.yields t p)) (le-ltb p L.net.places k)
-          ∙ sym (le-ltb 0 (L.net.yields t p) (omega (arith, L.law.no_yield_outside_places t p k)))
-    ]
 
 -- SOME NUMBER BELOW n PASSES
 
@@ -54,10 +41,17 @@ any_alike a b (suc n) h =
     ap (λ (v : Bool). v || any_below a n) (h n (omega arith))
     ∙ ap (λ (v : Bool). b n || v) (any_alike a b n (λ t l. h t (omega arith)))
 
--- HOW MANY NUMBERS BELOW n PASS
+-- a condition that is met, or fails
+pub met_and : (v w : Bool) → v ≡ true → (v && w) ≡ w
+met_and true w e = refl
+met_and false w e = absurd (both_ways false refl e)
 
-pub count_more : (b : ℕ → Bool) (n k : ℕ) (here : Bool) → k ≡ sum_to (λ t. cond (b t) 1 0) n → here ≡ b n →
-    k + cond here 1 0 ≡ sum_to (λ t. cond (b t) 1 0) (n + 1)
-count_more b n k here h e =
-    ap (λ (v : ℕ). v + cond here 1 0) h ∙ ap (λ (v : Bool). sum_to (λ t. cond (b t) 1 0) n + cond v 1 0) e
-    ∙ sym (sum_to_suc (λ t. cond (b t) 1 0) n)
+pub same_eqb : (p q : ℕ) → eqb p q ≡ eqb q p
+same_eqb p q = elim (cases_eq p q) [
+  | inl e ↦ eq-eqb p q e ∙ sym (eq-eqb q p (sym e))
+  | inr d ↦ ne_eqb p q d ∙ sym (ne_eqb q p (λ e. d (sym e)))
+]
+
+-- what holds below n, and what holds at n
+pub row_more : (b : ℕ → Bool) (q n : ℕ) → ((ltb q n && b q) || (b n && eqb q n)) ≡ (ltb q (n + 1) && b q)
+row_more b q n = grind (arith, nat_tests)

@@ -1,8 +1,7 @@
 -- A search over the places that are led to: what holds while it goes on, and what it has found at its end.
 use Rattle.std.proofs.Common.{◌≡◌, ℕ, Bool, true, false, not, ◌&&◌, ◌||◌, eqb, ltb, Decides, sym, ◌∙◌, subst, inl, inr}
 use Rattle.std.proofs.lemmas.Bool.{both_ways, or_cases, or_left, or_right, and_parts, and_cases, not-false, eqb-true}
-use Rattle.schedules.specs.Led.{Led}
-use Rattle.schedules.specs.Led.Led.{from, on}
+use Rattle.reached.specs.Led.{Led}
 
 -- the places seen so far, of which some are done: what these lead to is seen
 pub record Searching (leads : ℕ → ℕ → Bool) (first seen done : ℕ → Bool) : Type 0 where
@@ -10,19 +9,23 @@ pub record Searching (leads : ℕ → ℕ → Bool) (first seen done : ℕ → B
   pub only_led : (p : ℕ) → seen p ≡ true → Led leads first p
   pub done_lead : (q p : ℕ) → done q ≡ true → leads q p ≡ true → seen p ≡ true
 
--- an induction over the places that are led to
-pub led_fold : (leads : ℕ → ℕ → Bool) (first : ℕ → Bool) (P : ℕ → Type 0) →
-    ((p : ℕ) → first p ≡ true → P p) →
-    ((q p : ℕ) → P q → leads q p ≡ true → P p) →
-    (p : ℕ) → Led leads first p → P p
-led_fold leads first P here next p (from h) = here p h
-led_fold leads first P here next p (on q r l) = next q p (led_fold leads first P here next q r) l
+-- a first place is led to
+pub led_first : (leads : ℕ → ℕ → Bool) (first : ℕ → Bool) (p : ℕ) → first p ≡ true → Led leads first p
+led_first leads first p h set has closed = has p h
+
+-- and so is where a place that is led to leads
+pub led_on : (leads : ℕ → ℕ → Bool) (first : ℕ → Bool) (q p : ℕ) → Led leads first q → leads q p ≡ true → Led leads first p
+led_on leads first q p l e set has closed = closed q p (l set has closed) e
+
+-- the same places are led to from the same first places
+pub led_alike : (leads : ℕ → ℕ → Bool) (a b : ℕ → Bool) → ((p : ℕ) → a p ≡ b p) → (p : ℕ) → Led leads a p → Led leads b p
+led_alike leads a b e p l set has closed = l set (λ q h. has q (sym (e q) ∙ h)) closed
 
 module _ (leads : ℕ → ℕ → Bool) (first : ℕ → Bool) where
   pub search_begins : (done : ℕ → Bool) → ((p : ℕ) → done p ≡ false) → Searching leads first first done
   search_begins done none = record {
     all_first = λ p h. h;
-    only_led = λ p h. from h;
+    only_led = led_first leads first;
     done_lead = λ q p d l. absurd (both_ways (done q) (none q) d);
   }
 
@@ -35,7 +38,7 @@ module _ (leads : ℕ → ℕ → Bool) (first : ℕ → Bool) where
       all_first = λ p f. still p (s.all_first p f);
       only_led = λ p f. elim (or_cases (seen p) (leads place p) (sym (e p) ∙ f)) [
         | inl k ↦ s.only_led p k
-        | inr k ↦ on place (s.only_led place h) k
+        | inr k ↦ led_on leads first place p (s.only_led place h) k
       ];
       done_lead = λ q p f l. elim (or_cases (done q) (eqb q place && ltb place 64) (sym (d q) ∙ f)) [
         | inl k ↦ still p (s.done_lead q p k l)
@@ -53,8 +56,7 @@ module _ (leads : ℕ → ℕ → Bool) (first : ℕ → Bool) where
       ((p : ℕ) → (seen p && not (done p)) ≡ false) → (p : ℕ) → Decides (seen p) (Led leads first p)
   search_ends seen done s none p = (
     s.only_led p,
-    led_fold leads first (λ q. seen q ≡ true) s.all_first
-        (λ q r h l. s.done_lead q r (all_done q h) l) p,
+    λ l. l seen s.all_first (λ q r h e. s.done_lead q r (all_done q h) e),
   )
     where
       all_done : (q : ℕ) → seen q ≡ true → done q ≡ true

@@ -3,21 +3,16 @@ use Rattle.std.proofs.Common.{◌≡◌, ℕ, zero, suc, ◌<◌, ◌≤◌, Boo
 use Rattle.std.proofs.lemmas.Bool.{cases_lt, ltb-true, lt-ltb, le-ltb, eqb-true, eq-eqb, ne_eqb, cases_eq, and_parts, and_from, and_left, or_from}
 use Rattle.std.proofs.lemmas.Bool.Decides.{same_from_decides}
 use Rattle.theory.specs.Nets.{NetMeaning, NetLaw}
-use Rattle.theory.specs.Rows.{at}
 use Rattle.theory.specs.Firing.{Marking}
 use Rattle.theory.specs.Tallies.{Tally, Reached}
 use Rattle.theory.specs.Tallies.Reached.{marked, through}
 use Rattle.theory.specs.Tests.{any_below, in_subnet, is_reached, is_cut_off}
 use Rattle.theory.proofs.ReachRounds.{any_find, any_from, reached_decided}
 use Rattle.theory.proofs.Realized.{reached_fold}
-use Rattle.place_sets.specs.Flags.{has}
-use Rattle.schedules.specs.declared.schedule.Schedule.{Schedule}
-use Rattle.schedules.specs.Led.{Led}
-use Rattle.schedules.specs.Led.Led.{from, on}
-use Rattle.schedules.specs.Tables.{has_at, in_use}
-use Rattle.schedules.specs.Shows.{Shows, takes, leads_to}
-use Rattle.schedules.proofs.Searching.{led_fold}
-use Rattle.schedules.proofs.Flagged.{any_alike}
+use Rattle.reached.specs.Led.{Led}
+use Rattle.reached.specs.Leads.{takes, leads_to}
+use Rattle.reached.proofs.Searching.{led_first, led_on}
+use Rattle.reached.proofs.Flagged.{any_alike}
 
 -- a step yields only at places of the net
 pub yields_inside : (N : NetMeaning) → NetLaw N → (t p : ℕ) → 0 < N.yields t p → p < N.places
@@ -26,29 +21,43 @@ yields_inside N law t p y =
 
 module _ (N : NetMeaning) (law : NetLaw N) (m : Marking) (x : Tally) (leads : ℕ → ℕ → Bool) (first : ℕ → Bool) where
   module _ (l : (q p : ℕ) → q < N.places → leads q p ≡ leads_to N x q p) (f : (p : ℕ) → first p ≡ (ltb p N.places && ltb 0 (m p))) where
+    within : ℕ → Bool
+    within p = ltb p N.places && is_reached N m x p
+
+    inside : (p : ℕ) → p < N.places → Reached N m x p → within p ≡ true
+    unfolding within
+    inside p k r = and_from (ltb p N.places) (is_reached N m x p) (lt-ltb p N.places k) ((reached_decided N law.inputs_inside m x p k).1 r)
+
+    told : (p : ℕ) → within p ≡ true → (p < N.places) × Reached N m x p
+    unfolding within
+    told p e =
+        let a = and_parts (ltb p N.places) (is_reached N m x p) e in
+        let k = ltb-true p N.places a.0 in
+        (k, (reached_decided N law.inputs_inside m x p k).0 a.1)
+
     led_reached : (p : ℕ) → Led leads first p → (p < N.places) × Reached N m x p
-    led_reached =
-        led_fold leads first (λ p. (p < N.places) × Reached N m x p)
+    led_reached p led =
+        told p (led within
         (λ p h.
         let a = and_parts (ltb p N.places) (ltb 0 (m p)) (sym (f p) ∙ h) in
-        (ltb-true p N.places a.0, marked (ltb-true 0 (m p) a.1)))
-        (λ q p r h.
+        inside p (ltb-true p N.places a.0) (marked (ltb-true 0 (m p) a.1)))
+        (λ q p e h.
+        let r = told q e in
         let w = any_find (λ t. takes N x q t && ltb 0 (N.yields t p)) N.steps (sym (l q p r.0) ∙ h) in
         let t : ℕ = w.0 in
         let a = and_parts (takes N x q t) (ltb 0 (N.yields t p)) w.2 in
         let b = and_parts (ltb 0 (x t)) (eqb (N.input t) q) a.0 in
-        let y : 0 < N.yields t p = ltb-true 0 (N.yields t p) a.1 in (
-          yields_inside N law t p y,
-          through t w.1 (ltb-true 0 (x t) b.0) (subst (Reached N m x) (sym (eqb-true (N.input t) q b.1)) r.1) y,
-        ))
+        let y : 0 < N.yields t p = ltb-true 0 (N.yields t p) a.1 in
+        inside p (yields_inside N law t p y)
+        (through t w.1 (ltb-true 0 (x t) b.0) (subst (Reached N m x) (sym (eqb-true (N.input t) q b.1)) r.1) y)))
 
     reached_led : (p : ℕ) → Reached N m x p → p < N.places → Led leads first p
     reached_led =
         reached_fold N m x (λ p. p < N.places → Led leads first p)
-        (λ p h k. from (f p ∙ and_from (ltb p N.places) (ltb 0 (m p)) (lt-ltb p N.places k) (lt-ltb 0 (m p) h)))
+        (λ p h k. led_first leads first p (f p ∙ and_from (ltb p N.places) (ltb 0 (m p)) (lt-ltb p N.places k) (lt-ltb 0 (m p) h)))
         (λ t p k h r y _.
         let q : ℕ = N.input t in
-        on q (r (law.inputs_inside t k))
+        led_on leads first q p (r (law.inputs_inside t k))
         (l q p (law.inputs_inside t k)
         ∙ any_from (λ u. takes N x q u && ltb 0 (N.yields u p)) t N.steps k
         (and_from (takes N x q t) (ltb 0 (N.yields t p))
@@ -60,28 +69,15 @@ module _ (N : NetMeaning) (law : NetLaw N) (m : Marking) (x : Tally) (leads : �
 
 -- CUT-OFF PLACES
 
-module _ (N : NetMeaning) (law : NetLaw N) (m : Marking) (x : Tally) (s : Schedule) (h : Shows N m x s) where
+pub input_there : (p i : ℕ) → i < 64 → (eqb p i && ltb i 64) ≡ eqb i p
+input_there p i l = elim (cases_eq p i) [
+  | inl e ↦ and_from (eqb p i) (ltb i 64) (eq-eqb p i e) (lt-ltb i 64 l) ∙ sym (eq-eqb i p (sym e))
+  | inr d ↦ and_left (eqb p i) (ltb i 64) (ne_eqb p i d) ∙ sym (ne_eqb i p (λ e. d (sym e)))
+]
+
+module _ (N : NetMeaning) (law : NetLaw N) (m : Marking) (x : Tally) where
   abbrev by_net : ℕ → ℕ → Bool
   by_net p t = ltb 0 (x t) && (eqb (N.input t) p || ltb 0 (N.yields t p))
-
-  input_there : (p i : ℕ) → i < 64 → (eqb p i && ltb i 64) ≡ eqb i p
-  input_there p i l = elim (cases_eq p i) [
-    | inl e ↦ and_from (eqb p i) (ltb i 64) (eq-eqb p i e) (lt-ltb i 64 l) ∙ sym (eq-eqb i p (sym e))
-    | inr d ↦ and_left (eqb p i) (ltb i 64) (ne_eqb p i d) ∙ sym (ne_eqb i p (λ e. d (sym e)))
-  ]
-
-  pub in_use_shown : (p : ℕ) → in_use s p ≡ in_subnet N x p
-  in_use_shown p =
-      ap (any_below by_tables) h.steps ∙ any_alike by_tables (by_net p) N.steps
-      (λ t l.
-      ap (λ (v : ℕ). ltb 0 v && ((eqb p (at s.inputs t) && ltb (at s.inputs t) 64) || has_at s.yields t p)) (h.left t l)
-      ∙ ap (λ (v : ℕ). ltb 0 (x t) && ((eqb p v && ltb v 64) || has_at s.yields t p)) (h.inputs t)
-      ∙ ap (λ (v : Bool). ltb 0 (x t) && (v || has_at s.yields t p))
-      (input_there p (N.input t) (omega (arith, law.inputs_inside t l, law.few_places)))
-      ∙ ap (λ (v : Bool). ltb 0 (x t) && (eqb (N.input t) p || v)) (h.yields t p))
-    where
-      by_tables : ℕ → Bool
-      by_tables = λ t. ltb 0 (at s.left t) && ((eqb p (at s.inputs t) && ltb (at s.inputs t) 64) || has_at s.yields t p)
 
   outside : (p : ℕ) → N.places ≤ p → in_subnet N x p ≡ false
   outside p k = any_alike (by_net p) (λ t. false) N.steps (λ t l.
@@ -98,19 +94,20 @@ module _ (N : NetMeaning) (law : NetLaw N) (m : Marking) (x : Tally) (s : Schedu
       none zero = refl
       none (suc n) = none n
 
-  pub cut_off_shown : (used reached : Bool) (p : ℕ) → used ≡ in_use s p →
-      Decides reached (Led (has_at s.leads) (has s.marked) p) →
+  pub cut_off_decided : (leads : ℕ → ℕ → Bool) (first : ℕ → Bool) →
+      ((q p : ℕ) → q < N.places → leads q p ≡ leads_to N x q p) → ((p : ℕ) → first p ≡ (ltb p N.places && ltb 0 (m p))) →
+      (used reached : Bool) (p : ℕ) → used ≡ in_subnet N x p → Decides reached (Led leads first p) →
       (used && not reached) ≡ (ltb p N.places && is_cut_off N m x p)
-  cut_off_shown used reached p u d =
+  cut_off_decided leads first here held used reached p u d =
       elim (cases_lt p N.places) [
         | inl l ↦
-            ap (λ (v : Bool). v && not reached) (u ∙ in_use_shown p)
+            ap (λ (v : Bool). v && not reached) u
             ∙ ap (λ (v : Bool). in_subnet N x p && not v)
             (same_from_decides reached (is_reached N m x p)
-            (led_decides N law m x (has_at s.leads) (has s.marked) h.leads h.marked reached p l d)
+            (led_decides N law m x leads first here held reached p l d)
             (reached_decided N law.inputs_inside m x p l))
             ∙ sym (ap (λ (v : Bool). v && is_cut_off N m x p) (lt-ltb p N.places l))
         | inr k ↦
-            ap (λ (v : Bool). v && not reached) (u ∙ in_use_shown p ∙ outside p k)
+            ap (λ (v : Bool). v && not reached) (u ∙ outside p k)
             ∙ sym (ap (λ (v : Bool). v && is_cut_off N m x p) (le-ltb p N.places k))
       ]

@@ -1,0 +1,27 @@
+use Rattle.std.proofs.Common.{◌≡◌, ℕ, true, List, Decides, eqb, ltb, refl, sym, ap, ◌∙◌, subst, arith}
+use Rattle.std.proofs.lemmas.Bool.{or_right, and_from, eq-eqb, lt-ltb}
+use Rattle.std.proofs.lemmas.Grind.{get_or_default_zero}
+use Rattle.place_sets.specs.Flags.{has}
+use Rattle.theory.specs.Rows.{at}
+use Rattle.reached.specs.Led.{Led, has_at}
+use Rattle.reached.proofs.origins.Origins.of.Goals as goal
+use Rattle.reached.proofs.origins.Origins.of.Goals.{then-not-has, else-not-has}
+
+pub returns-clause-answer : goal.returns-clause-answer
+returns-clause-answer c q =
+    let s = c.args.self.now in
+    let s' = c.if-not-has.self in
+    let place = c.args.place in
+    let before : s'.before ≡ s.before = elim c.if-not-has.branch [
+      | then-not-has w ↦ ap (λ z. z.before) w.self-is
+      | else-not-has w ↦ ap (λ z. z.before) w.self-is
+    ] in
+    let known : has s'.known place ≡ true = elim c.if-not-has.branch [
+      | then-not-has w ↦ ap (λ z. has z.known place) w.self-is
+          ∙ (w.with-self.ensures.answer place
+          ∙ or_right (has s.known place) _ (and_from (eqb place place) (ltb place 64) (eq-eqb place place refl) (lt-ltb place 64 c.requires)))
+      | else-not-has w ↦ ap (λ z. has z.known place) w.self-is ∙ sym w.if-not-has.ensures
+    ] in
+    let there = get_or_default_zero s'.above c.from-2.result c.index-self-from-2.result (omega (arith, c.requires, c.from-2.ensures)) ∙ ap (at s'.above) c.from-2.ensures in
+    let D : ℕ → List ℕ → Type 0 = λ set row. Decides (has set q) (Led (has_at row) (λ z. eqb z place) q) in
+    subst (D _) before (subst (λ v. D v s'.before) (sym there) (s'.found place c.requires known q))

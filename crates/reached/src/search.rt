@@ -1,0 +1,21 @@
+//! The places that are reached, by one search over the words of flags.
+ghost use Rattle.std.specs.Prelude.{ℕ, Decides};
+ghost use Rattle.place_sets.specs.Flags.{has};
+ghost use Rattle.reached.specs.Led.{Led, has_at};
+
+use nets::net::MOST_PLACES;
+use place_sets::PlaceSet;
+
+/// The given places, and all that they lead to; `leads` has for each place where it leads at once.
+pub(crate) fn reached_from(first: PlaceSet, leads: &[PlaceSet; MOST_PLACES]) -> PlaceSet
+    ensures { (p : ℕ) → Decides (has result p) (Led (has_at leads.now) (has first) p) }
+{
+    // A work list: each turn may add places to `seen`, so no walk over one set will do.
+    let mut seen = first;
+    let mut done = PlaceSet::empty();
+    while let Some(place) = seen.minus(done).first() {
+        done = done.with(place);
+        seen = seen.union(leads[usize::from(place)]);
+    }
+    seen
+}
