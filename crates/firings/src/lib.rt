@@ -1,12 +1,13 @@
 //! Firings: the firing rule carried out on a board, by one take and one put for each place of the yields.
 #![tactic(auto)]
 
-ghost use Rattle.std.specs.Prelude.{◌≡◌, ℕ, ◌+◌, ◌-◌, ◌≤◌};
+ghost use Rattle.std.specs.Prelude.{◌≡◌, ℕ, ◌+◌, ◌-◌, ◌≤◌, true};
 ghost use Rattle.answers.specs.States.{yields_of};
 ghost use Rattle.firings.specs.Moves.{can_move, Moved};
 
 use boards::board::Board;
 use nets::net::Net;
+use place_sets::PlaceSet;
 use totals::asked::yields_of;
 
 /// One put for each place where the step yields, by rising place.
@@ -15,16 +16,30 @@ fn put_yields<N: Net, B: Board>(net: &N, board: &mut B, step: u16)
     ensures counts { (p : ℕ) → B.counts board.new p ≡ B.counts board.old p + (N.meaning net.now).net.yields step p }
     ensures spare { B.spare board.new + yields_of (N.meaning net.now).net step ≡ B.spare board.old }
 {
-    for place in 0..net.places() {
-        let blocks = net.yield_at(step, place);
-        if blocks > 0 {
-            let _ = board.put(place, u32::from(blocks));
-        }
+    // A walk over a set, as `add_yields` of `schedules` is: an iterator for it would be longer than the loop and no
+    // plainer.
+    let places = net.yield_places(step);
+    let mut done = PlaceSet::empty();
+    while let Some(place) = places.minus(done).first() {
+        let _ = board.put(place, u32::from(net.yield_at(step, place)));
+        done = done.with(place);
     }
 }
 
+/// Fires a step of which the caller knows that it can be fired on the board: nothing is asked before the take, and no
+/// call is refused.
+pub fn move_ready<N: Net, B: Board>(net: &N, board: &mut B, step: u16)
+    requires { can_move (N.meaning net.now).net (B.counts board.old) (B.spare board.old) step ≡ true }
+    ensures { Moved (N.meaning net.now).net step true (B.counts board.old) (B.spare board.old) (B.counts board.new) (B.spare board.new) }
+{
+    if let Some(input) = net.input(step) {
+        let _ = board.take(input);
+    }
+    put_yields(net, board, step);
+}
+
 // A bool and no `Result`: spare is asked for before the input, so that a slot board need not count, and the refusals
-// of a fire have another sequence; both callers know before that the step fires.
+// of a fire have another sequence; its callers know before that the step fires.
 /// Fires the step on the board, where it can be fired and spare holds its yields, and says whether
 /// it did; the board is as it was where it did not.
 pub fn move_blocks<N: Net, B: Board>(net: &N, board: &mut B, step: u16) -> bool

@@ -6,16 +6,16 @@ use Rattle.theory.specs.Tests.{least}
 unfoldable pub has : ℕ → ℕ → Bool
 has w p = w / 2 ^ p % 2 == 1
 
--- the least of the places 0 to 63 that is in the set
-unfoldable pub first_place : ℕ → Option ℕ
-first_place w = least (has w) 64
+-- the least of the places below n that is in the set
+unfoldable pub first_place : ℕ → ℕ → Option ℕ
+first_place n w = least (has w) n
 
 -- nothing is in the set
 abbrev pub Empty : ℕ → Type 0
 Empty w = (p : ℕ) → has w p ≡ false
 
--- p is the least in the set
-pub record IsFirst (w p : ℕ) : Type 0 where
-  pub inside : p < 64
+-- p is the least in the set, and below n
+pub record IsFirst (n w p : ℕ) : Type 0 where
+  pub inside : p < n
   pub in_it : has w p ≡ true
   pub least : (q : ℕ) → q < p → has w q ≡ false

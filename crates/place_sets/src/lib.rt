@@ -1,7 +1,7 @@
 //! Place sets: a set of places 0 to 63 as the 64 flags of one word.
 #![tactic(auto)]
 
-ghost use Rattle.std.specs.Prelude.{◌≡◌, ℕ, ◌^◌, ◌<◌, ◌≤◌, Bool, false, not, ◌&&◌, ◌||◌, Decides, MatchOption, ◌==◌, nat_lt};
+ghost use Rattle.std.specs.Prelude.{◌≡◌, ℕ, ◌^◌, ◌<◌, ◌≤◌, Bool, true, false, not, ◌&&◌, ◌||◌, Decides, MatchOption, ◌==◌, nat_lt};
 ghost use Rattle.place_sets.specs.Flags.{has, first_place, Empty, IsFirst};
 
 use std::marker::Model;
@@ -98,6 +98,13 @@ impl PlaceSet {
         }
     }
 
+    /// Whether some place is in both sets.
+    pub fn meets(self, other: PlaceSet) -> bool
+        ensures { Decides result ((p : ℕ) × (has self p ≡ true) × (has other p ≡ true)) }
+    {
+        self.word & other.word != 0
+    }
+
     /// Whether no place is in the set.
     pub fn is_empty(self) -> bool
         ensures { Decides result (Empty self) }
@@ -107,8 +114,8 @@ impl PlaceSet {
 
     /// The least place of the set.
     pub fn first(self) -> Option<u8>
-        ensures answer { result ≡ first_place self }
-        ensures cases { MatchOption result (Empty self) (IsFirst self) }
+        ensures answer { result ≡ first_place 64 self }
+        ensures cases { MatchOption result (Empty self) (IsFirst 64 self) }
     {
         // at most 63 where the word is not 0, so the cast keeps it
         (!self.is_empty()).then(|| self.word.trailing_zeros() as u8)

@@ -9,5 +9,5 @@ returns c =
     let z : IfSome c.then.result (λ p. p ≡ trailing_zeros w64 c.self.inside.word) = search rules in
     let d : Decides c.is_empty.result (Empty c.self.inside.word) =
     subst (λ (v : ℕ). Decides c.is_empty.result (Empty v)) (sym c.self.view_is) c.is_empty.ensures in
-    let f = first_is c.self.inside.word (omega arith) c.is_empty.result d c.then.result c.then.ensures.variant z in
+    let f = first_is w64 c.self.inside.word (omega arith) c.is_empty.result d c.then.result c.then.ensures.variant z in
     rw (← c.self.view_is) record { answer = f.0; cases = f.1 }

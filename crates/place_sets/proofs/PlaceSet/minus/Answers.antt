@@ -1,11 +1,11 @@
-use Rattle.std.proofs.Common.{arith}
+use Rattle.std.proofs.Common.{arith, w64}
 use Rattle.place_sets.proofs.FlagLaws.{has_minus, minus_above}
 use Rattle.place_sets.proofs.PlaceSet.minus.Goals as goal
 
 pub returns-clause-answer : goal.returns-clause-answer
 returns-clause-answer c =
     rw (← c.self.view_is, ← c.other.view_is)
-    (λ p. has_minus c.self.inside.word c.other.inside.word p (omega arith) (omega arith))
+    (λ p. has_minus w64 c.self.inside.word c.other.inside.word p (omega arith) (omega arith))
 
 pub returns-clause-inside : goal.returns-clause-inside
-returns-clause-inside c p = minus_above c.self.inside.word c.other.inside.word p (omega arith)
+returns-clause-inside c p = minus_above 64 c.self.inside.word c.other.inside.word p (omega arith)

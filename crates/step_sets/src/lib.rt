@@ -1,0 +1,101 @@
+//! Step sets: a set of steps 0 to 127 as the 128 flags of one word.
+#![tactic(auto)]
+
+ghost use Rattle.std.specs.Prelude.{◌≡◌, ℕ, ◌^◌, ◌<◌, ◌≤◌, Bool, false, not, ◌&&◌, ◌||◌, Decides, MatchOption, ◌==◌, nat_lt};
+ghost use Rattle.place_sets.specs.Flags.{has, first_place, Empty, IsFirst};
+
+use std::marker::Model;
+
+// Beside `PlaceSet`, and read by the same `has`: one generic over its word would need a trait of the words' operations.
+/// A set of steps 0 to 127.
+#[derive(Clone, Copy)]
+pub struct StepSet {
+    word: u128,
+}
+
+// A clause sees the word; `has` reads it.
+impl Model for StepSet {
+    ghost Value = { ℕ };
+
+    ghost view = { λ s. s.word };
+
+    ghost inverse = { λ w. record { word = w } };
+}
+
+/// How many steps a set can hold, numbered from 0: as many as a word has flags.
+const STEPS: u16 = 128;
+
+impl StepSet {
+    /// The set without steps.
+    pub fn empty() -> StepSet
+        ensures answer { Empty result }
+        ensures word { result ≡ 0 }
+        ensures bound { result < 2 ^ 128 }
+    {
+        StepSet { word: 0 }
+    }
+
+    /// Whether the step is in the set; false above 127.
+    pub fn has(self, step: u16) -> bool
+        ensures { result ≡ has self step }
+    {
+        step < STEPS && (self.word >> step) & 1 == 1
+    }
+
+    /// The set with one step more; a step above 127 leaves it as it is.
+    pub fn with(self, step: u16) -> StepSet
+        ensures answer { (t : ℕ) → has result t ≡ (has self t || (t == step && nat_lt step 128)) }
+        ensures grows { has self step ≡ false → step < 128 → self < result }
+        ensures bound { result < 2 ^ 128 }
+    {
+        if step < STEPS {
+            StepSet {
+                word: self.word | (1 << step),
+            }
+        } else {
+            self
+        }
+    }
+
+    /// The set without one of its steps.
+    pub fn without(self, step: u16) -> StepSet
+        ensures { (t : ℕ) → has result t ≡ (has self t && not (t == step)) }
+    {
+        self.minus(StepSet::empty().with(step))
+    }
+
+    /// The steps of either set.
+    pub fn union(self, other: StepSet) -> StepSet
+        ensures { (t : ℕ) → has result t ≡ (has self t || has other t) }
+    {
+        StepSet {
+            word: self.word | other.word,
+        }
+    }
+
+    /// The steps of this set that are not in the other.
+    pub fn minus(self, other: StepSet) -> StepSet
+        ensures answer { (t : ℕ) → has result t ≡ (has self t && not (has other t)) }
+        ensures inside { (t : ℕ) → 128 ≤ t → has result t ≡ false }
+    {
+        StepSet {
+            word: self.word & !other.word,
+        }
+    }
+
+    /// Whether no step is in the set.
+    pub fn is_empty(self) -> bool
+        ensures { Decides result (Empty self) }
+    {
+        self.word == 0
+    }
+
+    /// The least step of the set.
+    pub fn first(self) -> Option<u16>
+        ensures answer { result ≡ first_place 128 self }
+        ensures cases { MatchOption result (Empty self) (IsFirst 128 self) }
+    {
+        // at most 127 where the word is not 0, so the cast keeps it
+        (!self.is_empty()).then(|| self.word.trailing_zeros() as u16)
+    }
+}
