@@ -1,6 +1,6 @@
 -- What a schedule's leads lead to is what is reached.
 use Rattle.std.proofs.Common.{◌≡◌, ℕ, zero, suc, ◌<◌, ◌≤◌, Bool, true, false, not, ◌&&◌, ◌||◌, eqb, ltb, Decides, sym, refl, ap, ◌∙◌, subst, inl, inr, arith}
-use Rattle.std.proofs.lemmas.Bool.{cases_lt, ltb-true, lt-ltb, le-ltb, eqb-true, eq-eqb, ne_eqb, cases_eq, and_parts, and_from, and_left, or_from}
+use Rattle.std.proofs.lemmas.Bool.{cases_Bool, cases_lt, ltb-true, lt-ltb, le-ltb, eqb-true, eq-eqb, ne_eqb, cases_eq, and_parts, and_from, and_left, or_from}
 use Rattle.std.proofs.lemmas.Bool.Decides.{same_from_decides}
 use Rattle.theory.specs.Nets.{NetMeaning, NetLaw}
 use Rattle.theory.specs.Firing.{Marking}
@@ -18,6 +18,15 @@ use Rattle.reached.proofs.Flagged.{any_alike}
 pub yields_inside : (N : NetMeaning) → NetLaw N → (t p : ℕ) → 0 < N.yields t p → p < N.places
 yields_inside N law t p y =
     elim (cases_lt p N.places) [ inl l ↦ l | inr h ↦ absurd (omega (arith, law.no_yield_outside_places t p h)) ]
+
+-- no step leads outside the net
+pub no_leads : (N : NetMeaning) → NetLaw N → (x : Tally) (q p : ℕ) → N.places ≤ p → leads_to N x q p ≡ false
+no_leads N law x q p h = elim (cases_Bool (leads_to N x q p)) [
+  | inr e ↦ e
+  | inl e ↦
+      let w = any_find (λ t. takes N x q t && ltb 0 (N.yields t p)) N.steps e in
+      absurd (omega (arith, yields_inside N law w.0 p (ltb-true 0 (N.yields w.0 p) (and_parts (takes N x q w.0) (ltb 0 (N.yields w.0 p)) w.2).1)))
+]
 
 module _ (N : NetMeaning) (law : NetLaw N) (m : Marking) (x : Tally) (leads : ℕ → ℕ → Bool) (first : ℕ → Bool) where
   module _ (l : (q p : ℕ) → q < N.places → leads q p ≡ leads_to N x q p) (f : (p : ℕ) → first p ≡ (ltb p N.places && ltb 0 (m p))) where

@@ -1,49 +1,31 @@
 -- What the checks of a step say of the net, the marking and the tally that the schedule shows.
-use Rattle.std.proofs.Common.{◌≡◌, ℕ, ◌<◌, ◌≤◌, Bool, true, false, not, ◌&&◌, ◌||◌, eqb, ltb, Some, None, Option, MatchOption, Decides, sym, refl, ap, ◌∙◌, subst, inl, inr, arith}
-use Rattle.std.proofs.lemmas.Bool.{both_ways, ltb-true, ltb-false, lt-ltb, eqb-true, eq-eqb, and_parts, and_from, or_cases, or_parts}
+use Rattle.std.proofs.Common.{◌≡◌, ℕ, ◌<◌, ◌≤◌, Bool, true, false, not, ◌&&◌, ◌||◌, eqb, ltb, Some, None, Decides, sym, refl, ap, ◌∙◌, subst, inl, inr, arith}
+use Rattle.std.proofs.lemmas.Bool.{and_cases, not-false, cases_eq, ltb-true, ltb-false, lt-ltb, eqb-true, eq-eqb, and_parts, and_from, or_cases, or_parts}
 use Rattle.theory.specs.Nets.{NetMeaning, NetLaw}
 use Rattle.theory.specs.Rows.{at}
 use Rattle.theory.specs.Firing.{Marking, fired}
 use Rattle.theory.specs.Tallies.{Tally, NoPlaceCutOff}
 use Rattle.theory.specs.Tests.{least, safe}
-use Rattle.theory.proofs.Decided.{least_found, none_found}
-use Rattle.theory.proofs.TallySums.{one_same}
+use Rattle.theory.proofs.TallySums.{one_same, one_other}
+use Rattle.theory.specs.Orders.{less}
 use Rattle.place_sets.specs.Flags.{has}
 use Rattle.schedules.specs.declared.schedule.Schedule.{Schedule}
-use Rattle.schedules.specs.Led.{Led}
-use Rattle.schedules.specs.Led.Led.{from, on}
-use Rattle.schedules.specs.Tables.{has_at, ready_in, keeps_in, last_in, marked_after}
-use Rattle.schedules.specs.Shows.{Shows, TellsSafe, takers_at}
-use Rattle.schedules.proofs.Shown.{marked_fired}
-use Rattle.schedules.proofs.Searching.{led_fold}
-use Rattle.schedules.proofs.Reaching.{led_decides}
+use Rattle.reached.specs.Led.{Led, has_at}
+use Rattle.theory.proofs.Decided.{least_found, none_found}
+use Rattle.schedules.specs.Tables.{Kept, keeps_in, marked_after, TakesLast}
+use Rattle.schedules.specs.Shows.{Shows, is_left}
+use Rattle.schedules.proofs.Marked.{marked_fired}
+use Rattle.reached.proofs.Reaching.{led_decides}
 use Rattle.schedules.proofs.SafeFirings.{not_ready, safe_if_marked, safe_if_last, safe_if_back}
-
--- the same places are led to from the same first places
-pub led_alike : (leads : ℕ → ℕ → Bool) (a b : ℕ → Bool) → ((p : ℕ) → a p ≡ b p) → (p : ℕ) → Led leads a p → Led leads b p
-led_alike leads a b e = led_fold leads a (Led leads b) (λ p h. from (sym (e p) ∙ h)) (λ q p r h. on q r h)
-
--- the first step that is told to be safe is the least safe one
-pub least_safe : (N : NetMeaning) → NetLaw N → (m : Marking) (x : Tally) (s : Schedule) → Shows N m x s → NoPlaceCutOff N m x → (r : Option ℕ) →
-    MatchOption r ((k : ℕ) → 0 ≤ k → k < s.steps → TellsSafe s k false)
-    (λ t. (0 ≤ t) × (t < s.steps) × TellsSafe s t true × ((k : ℕ) → 0 ≤ k → k < t → TellsSafe s k false)) →
-    r ≡ least (safe N m x) N.steps
-least_safe N law m x s h none None f =
-    sym ((none_found (safe N m x) N.steps).1
-    (λ k l. sym ((f k (omega arith) (omega (arith, h.steps))).told N m x law h none l)))
-least_safe N law m x s h none (Some t) f =
-    let l : t < N.steps = omega (arith, f.1, h.steps) in
-    sym ((least_found (safe N m x) N.steps t).1
-    (l, sym (f.2.told N m x law h none l), λ k j. sym ((f.3 k (omega arith) j).told N m x law h none (omega (arith, l)))))
 
 module _ (N : NetMeaning) (law : NetLaw N) (m : Marking) (x : Tally) (s : Schedule) (h : Shows N m x s) (t : ℕ) (l : t < N.steps) where
   abbrev p : ℕ
   p = N.input t
 
-  pub ready_shown : ready_in s t ≡ (ltb 0 (x t) && ltb 0 (m p))
+  pub ready_shown : has s.ready t ≡ (ltb 0 (x t) && ltb 0 (m p))
   ready_shown =
-      ap (λ (v : ℕ). ltb 0 v && has s.marked (at s.inputs t)) (h.left t l)
-      ∙ ap (λ (v : ℕ). ltb 0 (x t) && has s.marked v) (h.inputs t)
+      h.ready.ready t
+      ∙ ap (λ (v : Bool). (v && ltb 0 (x t)) && has s.marked p) (lt-ltb t N.steps l)
       ∙ ap (λ (v : Bool). ltb 0 (x t) && v) (h.marked p)
       ∙ ap (λ (v : Bool). ltb 0 (x t) && (v && ltb 0 (m p))) (lt-ltb p N.places (law.inputs_inside t l))
 
@@ -53,11 +35,9 @@ module _ (N : NetMeaning) (law : NetLaw N) (m : Marking) (x : Tally) (s : Schedu
       ∙ ap (λ (v : ℕ). ltb 1 v || has_at s.yields t p) (h.held p (law.inputs_inside t l))
       ∙ ap (λ (v : Bool). ltb 1 (m p) || v) (h.yields t p)
 
-  last_shown : last_in s t ≡ (eqb (x t) 1 && eqb (takers_at N x p) 1)
-  last_shown =
-      ap (λ (v : ℕ). eqb v 1 && eqb (at s.takers (at s.inputs t)) 1) (h.left t l)
-      ∙ ap (λ (v : ℕ). eqb (x t) 1 && eqb (at s.takers v) 1) (h.inputs t)
-      ∙ ap (λ (v : ℕ). eqb (x t) 1 && eqb v 1) (h.takers p (law.inputs_inside t l))
+  -- the steps in the row of takers, at the input place
+  taker_shown : (u : ℕ) → has_at s.takers (at s.inputs t) u ≡ (is_left N x u && eqb (N.input u) p)
+  taker_shown u = ap (λ (v : ℕ). has_at s.takers v u) (h.inputs t) ∙ h.ready.takers p u
 
   -- where the input place keeps no block, exactly the other marked places and the yields hold one after the step
   after_shown : 0 < m p → keeps_in s t ≡ false → (q : ℕ) → marked_after s t q ≡ (ltb q N.places && ltb 0 (fired N m t q))
@@ -67,38 +47,90 @@ module _ (N : NetMeaning) (law : NetLaw N) (m : Marking) (x : Tally) (s : Schedu
       ∙ ap (λ (v : Bool). (has s.marked q && not (eqb q p)) || v) (h.yields t q)
       ∙ marked_fired N law m x s h t i q (has s.marked q && not (eqb q p)) (λ _. refl) (λ d. absurd (d (omega arith)))
 
-  pub ready_from : 0 < x t → 0 < m p → ready_in s t ≡ true
+  pub ready_from : 0 < x t → 0 < m p → has s.ready t ≡ true
   ready_from k i = ready_shown ∙ and_from (ltb 0 (x t)) (ltb 0 (m p)) (lt-ltb 0 (x t) k) (lt-ltb 0 (m p) i)
 
-  pub safe_not_ready : ready_in s t ≡ false → safe N m x t ≡ false
+  pub safe_not_ready : has s.ready t ≡ false → safe N m x t ≡ false
   safe_not_ready e = not_ready N law m x t (sym ready_shown ∙ e)
 
-  module _ (ready : ready_in s t ≡ true) where
-    pub is_left : 0 < x t
-    is_left = ltb-true 0 (x t) (and_parts (ltb 0 (x t)) (ltb 0 (m p)) (sym ready_shown ∙ ready)).0
+  module _ (ready : has s.ready t ≡ true) where
+    pub is_there : 0 < x t
+    is_there = ltb-true 0 (x t) (and_parts (ltb 0 (x t)) (ltb 0 (m p)) (sym ready_shown ∙ ready)).0
 
     pub holds : 0 < m p
     holds = ltb-true 0 (m p) (and_parts (ltb 0 (x t)) (ltb 0 (m p)) (sym ready_shown ∙ ready)).1
 
-  module _ (ready : ready_in s t ≡ true) (none : NoPlaceCutOff N m x) where
+  module _ (ready : has s.ready t ≡ true) (none : NoPlaceCutOff N m x) where
     pub safe_keeps : keeps_in s t ≡ true → safe N m x t ≡ true
-    safe_keeps e = safe_if_marked N law m x t l (is_left ready) (holds ready) none
+    safe_keeps e = safe_if_marked N law m x t l (is_there ready) (holds ready) none
         (elim (or_cases (ltb 1 (m p)) (ltb 0 (N.yields t p)) (sym keeps_shown ∙ e)) [
           | inl a ↦ omega (arith, ltb-true 1 (m p) a, one_same p p refl)
           | inr a ↦ omega (arith, ltb-true 0 (N.yields t p) a)
         ])
 
-    pub safe_last : last_in s t ≡ true → safe N m x t ≡ true
-    safe_last e =
-        let a = and_parts (eqb (x t) 1) (eqb (takers_at N x p) 1) (sym last_shown ∙ e) in
-        safe_if_last N law m x t l (is_left ready) (holds ready) none (eqb-true (takers_at N x p) 1 a.1) (eqb-true (x t) 1 a.0)
+    pub safe_last : TakesLast s t true → safe N m x t ≡ true
+    safe_last last = safe_if_last N law m x t l (is_there ready) (holds ready) none
+        (λ u k j e. last.1 u
+        (taker_shown u ∙ and_from (is_left N x u) (eqb (N.input u) p)
+        (and_from (ltb u N.steps) (ltb 0 (x u)) (lt-ltb u N.steps k) (lt-ltb 0 (x u) j)) (eq-eqb (N.input u) p e)))
+        (sym (h.left t l) ∙ last.0)
 
-    pub safe_back : keeps_in s t ≡ false → last_in s t ≡ false → (r : Bool) →
-        Decides r (Led (has_at s.leads) (marked_after s t) (at s.inputs t)) → r ≡ safe N m x t
+    -- a step that is left after t and takes at its input place
+    another : TakesLast s t false → (u : ℕ) × (u < N.steps) × (0 < less x t u) × (N.input u ≡ p)
+    another more = elim more [
+      | inl d ↦ (t, l, omega (arith, one_same t t refl, is_there ready, d_is d), refl)
+      | inr w ↦
+          let a = and_parts (is_left N x w.0) (eqb (N.input w.0) p) (sym (taker_shown w.0) ∙ w.1) in
+          let b = and_parts (ltb w.0 N.steps) (ltb 0 (x w.0)) a.0 in
+          (w.0, ltb-true w.0 N.steps b.0, omega (arith, ltb-true 0 (x w.0) b.1, one_other t w.0 (λ e. w.2 (sym e))), eqb-true (N.input w.0) p a.1)
+    ]
+      where
+        d_is : (at s.left t ≡ 1 → ⊥) → 1 < x t
+        d_is d = elim (cases_eq (x t) 1) [
+          | inl e ↦ absurd (d (h.left t l ∙ e))
+          | inr n ↦ omega (arith, is_there ready)
+        ]
+
+    pub safe_back : keeps_in s t ≡ false → TakesLast s t false → (r : Bool) →
+        Decides r (Led (λ q z. has_at s.origins.before z q) (marked_after s t) (at s.inputs t)) → r ≡ safe N m x t
     safe_back lost more r d =
-        safe_if_back N law m x t l (is_left ready) (holds ready) none
-        (λ e. both_ways (last_in s t) more
-        (last_shown ∙ and_from (eqb (x t) 1) (eqb (takers_at N x p) 1) (eq-eqb (x t) 1 e.1) (eq-eqb (takers_at N x p) 1 e.0)))
-        r
-        (led_decides N law (fired N m t) x (has_at s.leads) (marked_after s t) h.leads (after_shown (holds ready) lost) r p (law.inputs_inside t l)
-        (subst (λ (q : ℕ). Decides r (Led (has_at s.leads) (marked_after s t) q)) (h.inputs t) d))
+        safe_if_back N law m x t l (is_there ready) (holds ready) none (another more) r
+        (led_decides N law (fired N m t) x (λ q z. has_at s.origins.before z q) (marked_after s t) (λ q z _. h.before z q) (after_shown (holds ready) lost) r p (law.inputs_inside t l)
+        (subst (λ (q : ℕ). Decides r (Led (λ q z. has_at s.origins.before z q) (marked_after s t) q)) (h.inputs t) d))
+
+-- the first step that is safe, of those that are ready and were not told to be unsafe, is the least safe one
+module _ (N : NetMeaning) (law : NetLaw N) (m : Marking) (x : Tally) (s : Schedule) (h : Shows N m x s) (done : ℕ → Bool)
+    (unsafe : (t : ℕ) → t < N.steps → done t ≡ true → safe N m x t ≡ false) where
+  not_safe : (k : ℕ) → k < N.steps → (has s.ready k && not (done k)) ≡ false → safe N m x k ≡ false
+  not_safe k l e = elim (and_cases (has s.ready k) (not (done k)) e) [
+    | inl f ↦ safe_not_ready N law m x s h k l f
+    | inr f ↦ unsafe k l (not-false (done k) f)
+  ]
+
+  pub none_safe : ((k : ℕ) → (has s.ready k && not (done k)) ≡ false) → None ≡ least (safe N m x) N.steps
+  none_safe none = sym ((none_found (safe N m x) N.steps).1 (λ k l. not_safe k l (none k)))
+
+  pub least_safe : (t : ℕ) → t < N.steps → safe N m x t ≡ true → ((k : ℕ) → k < t → (has s.ready k && not (done k)) ≡ false) →
+      Some t ≡ least (safe N m x) N.steps
+  least_safe t l e below = sym ((least_found (safe N m x) N.steps t).1 (l, e, λ k j. not_safe k (omega arith) (below k j)))
+
+-- a step that is ready is the net's
+pub a_step : (N : NetMeaning) (m : Marking) (x : Tally) (s : Schedule) → Shows N m x s → (t : ℕ) → has s.ready t ≡ true → t < N.steps
+a_step N m x s h t e =
+    ltb-true t N.steps (and_parts (ltb t N.steps) (ltb 0 (x t)) (and_parts (is_left N x t) (has s.marked (N.input t)) (sym (h.ready.ready t) ∙ e)).0).0
+
+-- a schedule that differs at most in what searches found shows the same
+pub shows_kept : (N : NetMeaning) (m : Marking) (x : Tally) (s s' : Schedule) → Kept s s' → Shows N m x s → Shows N m x s'
+shows_kept N m x s s' k h = record {
+  steps = k.steps ∙ h.steps;
+  held = λ p j. ap (λ row. at row p) k.held ∙ h.held p j;
+  left = λ u j. ap (λ row. at row u) k.left ∙ h.left u j;
+  inputs = λ u. ap (λ row. at row u) k.inputs ∙ h.inputs u;
+  yields = λ u p. ap (λ row. has_at row u p) k.yields ∙ h.yields u p;
+  marked = λ p. ap (λ set. has set p) k.marked ∙ h.marked p;
+  before = λ p q. ap (λ row. has_at row p q) k.before ∙ h.before p q;
+  ready = record {
+    takers = λ p u. ap (λ row. has_at row p u) k.takers ∙ h.ready.takers p u;
+    ready = λ u. ap (λ set. has set u) k.ready ∙ h.ready.ready u ∙ ap (λ set. is_left N x u && has set (N.input u)) (sym k.marked);
+  };
+}

@@ -1,8 +1,6 @@
-mod Searching
-mod Flagged
-mod Agreeing
-mod Shown
-mod Reaching
+mod Added
+mod Marked
+mod Moved
+mod Counting
 mod SafeFirings
 mod Chosen
-mod Firing

@@ -1,3 +1,2 @@
-pub mod Led
 pub mod Tables
 pub mod Shows

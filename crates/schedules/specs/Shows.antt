@@ -1,26 +1,19 @@
 -- What a schedule shows: a net, a marking and the tally that is left.
-use Rattle.std.specs.Prelude.{◌≡◌, ℕ, ◌+◌, ◌^◌, ◌<◌, Bool, cond, ◌&&◌, ◌==◌, nat_lt}
-use Rattle.theory.specs.Sums.{sum_to}
+use Rattle.std.specs.Prelude.{◌≡◌, ℕ, ◌+◌, ◌^◌, ◌<◌, Bool, ◌&&◌, nat_lt}
 use Rattle.theory.specs.Nets.{NetMeaning, NetLaw}
 use Rattle.theory.specs.Rows.{at}
 use Rattle.theory.specs.Firing.{Marking}
 use Rattle.theory.specs.Tallies.{Tally, NoPlaceCutOff}
-use Rattle.theory.specs.Tests.{any_below, safe}
+use Rattle.theory.specs.Tests.{safe}
 use Rattle.place_sets.specs.Flags.{has}
 use Rattle.schedules.specs.declared.schedule.Schedule.{Schedule}
-use Rattle.schedules.specs.Tables.{has_at}
+use Rattle.reached.specs.Led.{has_at}
+use Rattle.reached.specs.Leads.{leads_to}
+use Rattle.schedules.specs.Tables.{Readied}
 
--- the step t is left in the tally and takes at p
-abbrev pub takes : NetMeaning → Tally → ℕ → ℕ → Bool
-takes N x p t = nat_lt 0 (x t) && N.input t == p
-
--- a step that is left takes at q and yields at p
-abbrev pub leads_to : NetMeaning → Tally → ℕ → ℕ → Bool
-leads_to N x q p = any_below (λ t. takes N x q t && nat_lt 0 (N.yields t p)) N.steps
-
--- how many steps that are left take at p
-abbrev pub takers_at : NetMeaning → Tally → ℕ → ℕ
-takers_at N x p = sum_to (λ t. cond (takes N x p t) 1 0) N.steps
+-- the step t is a step of the net, and left in the tally
+abbrev pub is_left : NetMeaning → Tally → ℕ → Bool
+is_left N x t = nat_lt t N.steps && nat_lt 0 (x t)
 
 -- the schedule shows the net, the marking and the tally; no `impl Model`, as the rows tell a net, a marking and
 -- a tally only below the number of places and of steps
@@ -31,8 +24,8 @@ pub record Shows (N : NetMeaning) (m : Marking) (x : Tally) (s : Schedule) : Typ
   pub inputs : (t : ℕ) → at s.inputs t ≡ N.input t
   pub yields : (t p : ℕ) → has_at s.yields t p ≡ nat_lt 0 (N.yields t p)
   pub marked : (p : ℕ) → has s.marked p ≡ (nat_lt p N.places && nat_lt 0 (m p))
-  pub leads : (q p : ℕ) → q < N.places → has_at s.leads q p ≡ leads_to N x q p
-  pub takers : (p : ℕ) → p < N.places → at s.takers p ≡ takers_at N x p
+  pub before : (p q : ℕ) → has_at s.origins.before p q ≡ leads_to N x q p
+  pub ready : Readied (is_left N x) N.input s
 
 -- what holds of every lawful net, marking and tally that the schedule shows
 abbrev pub WhereShown : Schedule → (NetMeaning → Marking → Tally → Type 0) → Type 0

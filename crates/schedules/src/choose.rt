@@ -1,41 +1,43 @@
 //! The next step of the first order: the least that is safe.
-ghost use Rattle.std.specs.Prelude.{◌≡◌, ◌<◌, Decides};
-ghost use Rattle.schedules.specs.Led.{Led};
+ghost use Rattle.std.specs.Prelude.{◌≡◌, ℕ, true, Decides};
+ghost use Rattle.place_sets.specs.Flags.{has};
+ghost use Rattle.reached.specs.Led.{Led, has_at};
 ghost use Rattle.schedules.specs.Shows.{WhereShown, TellsSafe};
-ghost use Rattle.schedules.specs.Tables.{has_at, ready_in, keeps_in, last_in, marked_after};
+ghost use Rattle.schedules.specs.Tables.{Kept, TakesLast, keeps_in, marked_after};
 ghost use Rattle.theory.specs.Rows.{at};
 ghost use Rattle.theory.specs.Tallies.{NoPlaceCutOff};
 ghost use Rattle.theory.specs.Tests.{least, safe};
 
 use crate::schedule::Schedule;
+use step_sets::StepSet;
 
 impl Schedule {
-    /// The least step that is safe, where no place is cut off.
-    pub fn next_step(&self) -> Option<u16>
-        ensures { WhereShown self.now (λ N m x. NoPlaceCutOff N m x → result ≡ least (safe N m x) N.steps) }
+    /// The least step that is safe, where no place is cut off. Only what searches found changes in the schedule.
+    pub fn next_step(&mut self) -> Option<u16>
+        ensures answer { WhereShown self.old (λ N m x. NoPlaceCutOff N m x → result ≡ least (safe N m x) N.steps) }
+        ensures kept { Kept self.old self.new }
     {
-        (0..self.steps).find(|step| self.is_safe(*step))
+        let mut done = StepSet::empty();
+        while let Some(step) = self.ready.minus(done).first() {
+            if self.is_safe(step) {
+                return Some(step);
+            }
+            done = done.with(step);
+        }
+        None
     }
 
-    /// Whether a step is safe, where no place is cut off: it can lose only its input place, and only
+    /// Whether a step that is ready is safe, where no place is cut off: it can lose only its input place, and only
     /// by taking the last block there and yielding none.
-    fn is_safe(&self, step: u16) -> bool
-        ensures { TellsSafe self.now step result }
+    fn is_safe(&mut self, step: u16) -> bool
+        requires { has self.old.ready step ≡ true }
+        ensures answer { TellsSafe self.old step result }
+        ensures kept { Kept self.old self.new }
     {
-        if !self.is_ready(step) {
-            return false;
-        }
         if self.keeps_input(step) || self.takes_last(step) {
             return true;
         }
         self.comes_back(step)
-    }
-
-    /// Whether a step is left and finds a block.
-    pub(crate) fn is_ready(&self, step: u16) -> bool
-        ensures { result ≡ ready_in self.now step }
-    {
-        self.times_left(step) > 0 && self.marked.has(self.input(step))
     }
 
     /// Whether the input place holds a block after the step.
@@ -48,17 +50,19 @@ impl Schedule {
 
     /// Whether no step that is left after this one takes at its input place.
     fn takes_last(&self, step: u16) -> bool
-        ensures { result ≡ last_in self.now step }
+        ensures { TakesLast self.now step result }
     {
-        self.times_left(step) == 1 && self.takers[usize::from(self.input(step))] == 1
+        let others = self.takers[usize::from(self.input(step))].without(step);
+        self.times_left(step) == 1 && others.first().is_none()
     }
 
     /// Whether the input place is reached from the other places that hold a block after the step.
-    fn comes_back(&self, step: u16) -> bool
-        ensures { Decides result (Led (has_at self.now.leads) (marked_after self.now step) (at self.now.inputs step)) }
+    fn comes_back(&mut self, step: u16) -> bool
+        ensures answer { Decides result (Led (λ q p. has_at self.old.origins.before p q) (marked_after self.old step) (at self.old.inputs step)) }
+        ensures kept { Kept self.old self.new }
     {
         let place = self.input(step);
         let first = self.marked.without(place).union(self.yields(step));
-        self.reached_from(first).has(place)
+        first.meets(self.origins.of(place))
     }
 }

@@ -3,6 +3,7 @@
 
 mod build;
 mod choose;
-mod fire;
-mod reach;
+mod count_down;
+mod move_blocks;
 pub mod schedule;
+mod takers;

@@ -5,6 +5,8 @@ ghost use Rattle.theory.specs.Rows.{at};
 use boards::board::PLACES;
 use nets::net::MOST_STEPS;
 use place_sets::PlaceSet;
+use reached::origins::Origins;
+use step_sets::StepSet;
 
 /// The blocks (tokens) at each place, how often each step is still to be done, and where blocks
 /// can come from there.
@@ -20,10 +22,12 @@ pub struct Schedule {
     pub(crate) yields: [PlaceSet; MOST_STEPS],
     /// The places that hold a block.
     pub(crate) marked: PlaceSet,
-    /// For each place, where the steps that are left and take there yield.
-    pub(crate) leads: [PlaceSet; PLACES],
-    /// For each place, how many steps that are left take there.
-    pub(crate) takers: [u8; PLACES],
+    /// The steps that are left and find a block.
+    pub(crate) ready: StepSet,
+    /// For each place, the steps that are left and take there.
+    pub(crate) takers: [StepSet; PLACES],
+    /// For each place, from where the steps that are left yield there.
+    pub(crate) origins: Origins,
     ghost few_steps: { steps ≤ 128 },
     ghost inputs_inside: { (t : ℕ) → at inputs t < 64 },
 }

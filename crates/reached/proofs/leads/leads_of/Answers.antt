@@ -8,7 +8,7 @@ use Rattle.theory.specs.Rows.{at}
 use Rattle.reached.specs.Led.{has_at}
 use Rattle.reached.specs.Leads.{takes}
 use Rattle.reached.proofs.Flagged.{any_joined, any_passed_over, met_and, same_eqb}
-use Rattle.reached.proofs.SetRows.{none_at, one_joined}
+use Rattle.reached.proofs.SetRows.{none_at, joined}
 use Rattle.reached.proofs.leads.leads_of.Goals as goal
 use Rattle.reached.proofs.leads.leads_of.Goals.{in-Some, in_default}
 
@@ -29,7 +29,7 @@ loop-step-preserved g c =
           let l : w.from-place.result < length row = omega (arith, i, L.law.inputs_inside n w.in-Some.ensures.1, L.law.few_places, c.loop-step.invariant.1) in (
             λ q p.
                 ap (λ row. has_at row q p) w.leads-is
-                ∙ one_joined row w.from-place.result w.union.result w.yield_places.result l
+                ∙ joined row w.from-place.result w.union.result (has w.yield_places.result) l
                 (λ p. w.union.ensures p ∙ ap (λ v. has v p || has w.yield_places.result p) (get_or_default_zero row w.from-place.result w.index-leads-place.result l)) q p
                 ∙ any_joined (b q p) n _ _ (c.loop-step.invariant.0 q p)
                 (ap (λ (v : Bool). eqb q w.from-place.result && v) (w.yield_places.ensures p)

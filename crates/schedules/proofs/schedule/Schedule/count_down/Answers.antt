@@ -1,8 +1,8 @@
-use Rattle.std.proofs.Common.{◌≡◌, ℕ, ◌-◌, ◌<◌, set, refl, ap, ◌∙◌, inl, inr, arith}
+use Rattle.std.proofs.Common.{◌≡◌, ℕ, ◌-◌, ◌<◌, set, refl, sym, ap, ◌∙◌, inl, inr, arith}
 use Rattle.std.proofs.lemmas.Bool.{cases_eq}
 use Rattle.theory.specs.Rows.{at}
 use Rattle.schedules.specs.declared.schedule.Schedule.{Schedule}
-use Rattle.schedules.proofs.Firing.{shows_more_left, shows_last_gone}
+use Rattle.schedules.proofs.Counting.{shows_more_left, shows_last_gone}
 use Rattle.schedules.proofs.schedule.Schedule.count_down.Goals as goal
 
 pub returns-then-left-eq1 : goal.returns-then-left-eq1
@@ -14,9 +14,10 @@ returns-then-left-eq1 c N m x law h ready =
     let row : set s.left c.from.result c.saturating_sub.result ≡ set s.left t (at s.left t - 1) =
     ap (λ (i : ℕ). set s.left i c.saturating_sub.result) c.from.ensures
     ∙ ap (set s.left t) (c.saturating_sub.ensures ∙ ap (λ (v : ℕ). v - 1) c.times_left-left.ensures) in
+    let once : x t ≡ 1 = sym (h.left t l) ∙ (sym c.times_left-left.ensures ∙ c.if-left-eq1.true) in
     shows_last_gone N law m x s h t l k _
-    (record { steps = refl; held = refl; left = row; inputs = refl; yields = refl; marked = refl; leads = refl; takers = refl })
-    c.input-place.result c.rebuild.new.self c.rebuild.ensures (c.input-place.ensures.shown N m x h)
+    (record { steps = refl; held = refl; left = row; inputs = refl; yields = refl; marked = refl; ready = refl; takers = refl; before = refl })
+    once c.finish.new.self c.finish.ensures
 
 pub returns-else-left-eq1 : goal.returns-else-left-eq1
 returns-else-left-eq1 c N m x law h ready =
@@ -33,4 +34,4 @@ returns-else-left-eq1 c N m x law h ready =
       | inr n ↦ omega arith
     ] in
     shows_more_left N law m x s h t l k _
-    (record { steps = refl; held = refl; left = row; inputs = refl; yields = refl; marked = refl; leads = refl; takers = refl }) two
+    (record { steps = refl; held = refl; left = row; inputs = refl; yields = refl; marked = refl; ready = refl; takers = refl; before = refl }) two

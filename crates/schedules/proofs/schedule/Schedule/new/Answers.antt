@@ -1,19 +1,28 @@
-use Rattle.std.proofs.Common.{ℕ, ◌&&◌, ltb, ap, ◌∙◌, arith}
+use Rattle.std.proofs.Common.{ℕ, ◌&&◌, ltb, sym, ap, ◌∙◌, inl, inr, arith}
+use Rattle.std.proofs.lemmas.Bool.{cases_lt}
 use Rattle.theory.specs.Nets.{LawfulNet}
 use Rattle.theory.specs.Rows.{at}
-use Rattle.schedules.proofs.Shown.{shows_new}
+use Rattle.reached.proofs.Reaching.{no_leads}
+use Rattle.schedules.specs.Shows.{is_left}
 use Rattle.schedules.proofs.schedule.Schedule.new.Goals as goal
 
 pub returns : goal.returns
 returns g c =
-    let lawful : LawfulNet = g.N.Net.meaning c.args.net.now in
-    shows_new lawful.net lawful.law (at c.args.counts.now) (at c.args.tally.now) _ c.rebuild_all.new.self
-    (record {
+    let L : LawfulNet = g.N.Net.meaning c.args.net.now in
+    let x : ℕ → ℕ = at c.args.tally.now in
+    record {
       steps = c.steps.ensures;
-      left = λ t l. c.front-2.ensures t (omega (arith, lawful.law.few_steps));
+      held = λ p l. c.front.ensures p (omega (arith, L.law.few_places));
+      left = λ t l. c.front-2.ensures t (omega (arith, L.law.few_steps));
       inputs = c.inputs_of.ensures.answer;
-      yields = c.yields_of.ensures;
-    })
-    c.front.ensures
-    (λ p. c.marked_in.ensures p ∙ ap (λ (v : ℕ). ltb p v && ltb 0 (at c.args.counts.now p)) c.places.ensures)
-    c.rebuild_all.ensures
+      yields = c.all_yield_places.ensures;
+      marked = λ p. c.marked_in-marked.ensures p ∙ ap (λ (v : ℕ). ltb p v && ltb 0 (at c.args.counts.now p)) c.places.ensures;
+      before = λ p q. elim (cases_lt p 64) [
+        | inl l ↦ c.new.ensures.before p q l ∙ c.leads_of.ensures q p
+        | inr k ↦ c.new.ensures.past p q k ∙ sym (no_leads L.net L.law x q p (omega (arith, L.law.few_places)))
+      ];
+      ready = record {
+        takers = c.takers_of-takers.ensures;
+        ready = c.takers_at.ensures (is_left L.net x) L.net.input c.takers_of-takers.ensures;
+      };
+    }

@@ -1,13 +1,15 @@
-//! One step fired: blocks moved, and one less of the step left.
-ghost use Rattle.std.specs.Prelude.{◌≡◌, ℕ, ◌+◌, ◌-◌, ◌^◌, ◌<◌, min, if◌then◌else◌};
+//! One step fired: its blocks moved, and one less of it left.
+ghost use Rattle.std.specs.Prelude.{◌≡◌, ℕ, ◌+◌, ◌-◌, ◌^◌, ◌<◌, Bool, not, ◌&&◌, ◌||◌, ◌==◌, min, if◌then◌else◌};
 ghost use Rattle.place_sets.specs.Flags.{has};
-ghost use Rattle.schedules.specs.Shows.{Shows, WhereShown, Ready, Room};
+ghost use Rattle.schedules.specs.Shows.{Shows, Ready, Room};
+ghost use Rattle.schedules.specs.Tables.{KeepsReady};
 ghost use Rattle.theory.specs.Firing.{Marking, fired};
 ghost use Rattle.theory.specs.Orders.{less};
 ghost use Rattle.theory.specs.Rows.{at};
 ghost use Rattle.theory.specs.Tallies.{Tally};
 
 use crate::schedule::Schedule;
+use crate::takers::takers_at;
 use boards::board::PLACES;
 use nets::net::Net;
 use place_sets::PlaceSet;
@@ -16,7 +18,7 @@ use place_sets::PlaceSet;
 fn add_yields<N: Net>(held: &mut [u32; PLACES], net: &N, step: u16, places: PlaceSet)
     ensures { (p : ℕ) → p < 64 → at held.new p ≡ (if has places p then min (at held.old p + (N.meaning net.now).net.yields step p) (2 ^ 32 - 1) else at held.old p) }
 {
-    // The only walk over a set: an iterator for it would be longer than the loop and no plainer.
+    // A walk over a set: an iterator for it would be longer than the loop and no plainer.
     let mut done = PlaceSet::empty();
     while let Some(place) = places.minus(done).first() {
         let yielded = u32::from(net.yield_at(step, place));
@@ -31,22 +33,9 @@ impl Schedule {
         ensures fired { let M = (N.meaning net.now).net in (m : Marking) (x : Tally) → Shows M m x self.old → Ready M m x step → Room M m step → Shows M (fired M m step) (less x step) self.new }
         ensures same { let M = (N.meaning net.now).net in (m : Marking) (x : Tally) → Shows M m x self.old → (Ready M m x step → ⊥) → self.new ≡ self.old }
     {
-        if step < self.steps && self.is_ready(step) {
+        if step < self.steps && self.ready.has(step) {
             self.count_down(step);
             self.move_blocks(net, step);
-        }
-    }
-
-    /// Leaves one less of a step.
-    fn count_down(&mut self, step: u16)
-        requires { step < 128 }
-        ensures { WhereShown self.old (λ N m x. Ready N m x step → Shows N m (less x step) self.new) }
-    {
-        let place = self.input(step);
-        let left = self.times_left(step);
-        self.left[usize::from(step)] = left.saturating_sub(1);
-        if left == 1 {
-            self.rebuild(place);
         }
     }
 
@@ -59,11 +48,29 @@ impl Schedule {
         let count = self.blocks_at(place);
         self.held[usize::from(place)] = count.saturating_sub(1);
         add_yields(&mut self.held, net, step, yields);
-        let others = if count == 1 {
-            self.marked.without(place)
-        } else {
-            self.marked
-        };
-        self.marked = others.union(yields);
+        if count == 1 {
+            self.unmark(place);
+        }
+        self.mark(yields);
+    }
+
+    /// The place holds no block any more.
+    fn unmark(&mut self, place: u8)
+        requires { place < 64 }
+        ensures ready { KeepsReady self.old self.new }
+        ensures marked { (p : ℕ) → has self.new.marked p ≡ (has self.old.marked p && not (p == place)) }
+    {
+        self.marked = self.marked.without(place);
+        self.ready = self.ready.minus(self.takers[usize::from(place)]);
+    }
+
+    /// The places hold a block.
+    fn mark(&mut self, places: PlaceSet)
+        ensures ready { KeepsReady self.old self.new }
+        ensures marked { (p : ℕ) → has self.new.marked p ≡ (has self.old.marked p || has places p) }
+    {
+        let fresh = places.minus(self.marked);
+        self.marked = self.marked.union(places);
+        self.ready = self.ready.union(takers_at(fresh, &self.takers));
     }
 }

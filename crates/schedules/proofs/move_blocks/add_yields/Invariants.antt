@@ -1,7 +1,7 @@
 use Rattle.std.proofs.Common.{◌≡◌, ℕ, ◌+◌, ◌-◌, ◌^◌, ◌<◌, min, true, cond}
 use Rattle.theory.specs.Rows.{at}
 use Rattle.place_sets.specs.Flags.{has}
-use Rattle.schedules.proofs.fire.add_yields.Given as goal
+use Rattle.schedules.proofs.move_blocks.add_yields.Given as goal
 
 abbrev pub invariant-loop-place : goal.invariant-loop-place
 invariant-loop-place g l =
