@@ -1,4 +1,4 @@
-use Rattle.std.proofs.Common.{◌+◌, ◌-◌, ◌<◌, ◌≤◌, ◌∙◌, arith}
+use Rattle.std.proofs.Common.{◌+◌, ◌-◌, ◌<◌, ◌≤◌, ◌∙◌, arith, rules}
 use Rattle.formats.specs.Chained.{chained_arcs, arc_place}
 use Rattle.formats.proofs.Chains.{chain_end}
 use Rattle.formats.proofs.ChainedLaw.{each_arc_fits}
@@ -6,7 +6,7 @@ use Rattle.nets.proofs.Walks.{place_below, chain_done, gathered_none, gathered_a
 use Rattle.nets.proofs.chained.chain_places.Goals as goal
 
 pub loop-seen-init : goal.loop-seen-init
-loop-seen-init c = gathered_none _ _ _ _ _ c.requires.inside (omega arith) c.from-arc.ensures c.empty-places.ensures.answer
+loop-seen-init c = gathered_none _ _ _ _ _ c.requires.inside (omega arith) c.from-arc.ensures (search rules)
 
 pub returns-then-arc-eq0 : goal.returns-then-arc-eq0
 returns-then-arc-eq0 c =
