@@ -1,11 +1,14 @@
 //! The chained net: the yields of a step are a chain of arcs.
-ghost use Rattle.std.specs.Prelude.{◌≡◌, ℕ, ◌^◌, ◌<◌, ◌≤◌, Some, None, MatchResult, false, is_some, is_ok, if◌then◌else◌, slice_index};
+ghost use Rattle.std.specs.Prelude.{◌≡◌, ℕ, ◌^◌, ◌<◌, ◌≤◌, Some, None, MatchResult, false, is_some, is_ok, nat_lt, if◌then◌else◌, slice_index};
 ghost use Rattle.formats.proofs.ChainedLaw.{chained_lawful};
 ghost use Rattle.formats.specs.Chained.{chained_arcs, chained_input, first_arc, arc_begin, arc_place, arc_weight, arc_next, next_fits, chained_step_unfit, arc_unfit, chain_yield, chained_end, head_refusal, chained_rows_refusal, chained_refusal, chained_net};
+ghost use Rattle.place_sets.specs.Flags.{has};
 ghost use Rattle.refusals.specs.Answered.{answered};
+ghost use Rattle.theory.specs.Rows.{at};
 
 use crate::bytes::{byte_at, pair_at};
 use crate::net::{MOST_PLACES, MOST_STEPS, Net};
+use place_sets::PlaceSet;
 use refusals::Refusal;
 use searches::least_below;
 
@@ -107,7 +110,8 @@ pub fn file_end(file: &[u8]) -> usize
 }
 
 /// The checks of the head, and of the length where the file is to have so many bytes.
-// Beside that of the grid net: this head has two bytes more and one check more, and they share nothing else.
+// Beside that of the grid net: this head has two bytes more and one check more. The two share the pattern of their
+// checks; a shared one would be handed each of its numbers.
 pub fn check_head_to(file: &[u8], end: usize) -> Result<(), Refusal>
     ensures { result ≡ answered (head_refusal file.now end) tt }
 {
@@ -160,6 +164,44 @@ fn chain_yield(file: &[u8], first: u16, place: u8) -> u8
         arc = u32::from(next_of(file, arc));
     }
     0
+}
+
+/// The weight of a chain's arc at each place, 0 where it has none.
+fn chain_yields(file: &[u8], first: u16) -> [u8; MOST_PLACES]
+    requires accepted { is_some (chained_refusal file.now) ≡ false }
+    requires inside { first ≤ chained_arcs file.now }
+    ensures { (p : ℕ) → at result p ≡ chain_yield file.now (chained_arcs file.now) first p }
+{
+    let mut weights = [0; MOST_PLACES];
+    let mut arc = u32::from(first);
+    // As in `chain_yield`. Places rise along a chain, so that none is written twice.
+    for _seen in 0..arcs(file) {
+        if arc == 0 {
+            return weights;
+        }
+        weights[usize::from(place_of(file, arc))] = weight_of(file, arc);
+        arc = u32::from(next_of(file, arc));
+    }
+    weights
+}
+
+/// The places of a chain's arcs.
+fn chain_places(file: &[u8], first: u16) -> PlaceSet
+    requires accepted { is_some (chained_refusal file.now) ≡ false }
+    requires inside { first ≤ chained_arcs file.now }
+    ensures { (p : ℕ) → has result p ≡ nat_lt 0 (chain_yield file.now (chained_arcs file.now) first p) }
+{
+    let mut places = PlaceSet::empty();
+    let mut arc = u32::from(first);
+    // As in `chain_yield`.
+    for _seen in 0..arcs(file) {
+        if arc == 0 {
+            return places;
+        }
+        places = places.with(place_of(file, arc));
+        arc = u32::from(next_of(file, arc));
+    }
+    places
 }
 
 // `new` and `load` stand in both makes of net: a trait for them would be no plainer, as each clause names the
@@ -220,6 +262,24 @@ impl Net for ChainedNet<'_> {
             chain_yield(self.file, first_arc(self.file, step), place)
         } else {
             0
+        }
+    }
+
+    // Each by one walk over the chain of the step, where the trait's own would walk it for each place.
+
+    fn yields(&self, step: u16) -> [u8; MOST_PLACES] {
+        if step < self.steps() {
+            chain_yields(self.file, first_arc(self.file, step))
+        } else {
+            [0; MOST_PLACES]
+        }
+    }
+
+    fn yield_places(&self, step: u16) -> PlaceSet {
+        if step < self.steps() {
+            chain_places(self.file, first_arc(self.file, step))
+        } else {
+            PlaceSet::empty()
         }
     }
 }

@@ -54,6 +54,26 @@ fn a_next_arc_leads_on_and_up(rt: HostRuntime) {
     assert_eq!(rt; chained(&on_and_up), Ok(()));
 }
 
+/// A net of three places and one step, which yields at two places.
+fn load_chain<'a>(rt: &impl Abort, file: &'a [u8]) {
+    let mut net: ChainedNet<'a> = ChainedNet::new();
+    assert_eq!(rt; net.load(file), Ok(()));
+    let yields = net.yields(0);
+    assert_eq!(rt; (yields[0], yields[1], yields[2]), (7, 0, 5));
+    let places = net.yield_places(0);
+    assert_eq!(rt;
+        (places.has(0), places.has(1), places.has(2)),
+        (true, false, true)
+    );
+    assert_eq!(rt; net.yields(1)[0], 0);
+    assert!(rt; net.yield_places(1).is_empty());
+}
+
+#[test]
+fn a_chain_yields_at_the_places_of_its_arcs(rt: HostRuntime) {
+    load_chain(&rt, &[3, 1, 0, 2, 1, 0, 1, 0, 7, 0, 2, 2, 5, 0, 0]);
+}
+
 /// A net of two places and one step is loaded, and another load is refused.
 fn load_both<'a>(rt: &impl Abort, good: &'a [u8], bad: &'a [u8]) {
     let mut net: GridNet<'a> = GridNet::new();

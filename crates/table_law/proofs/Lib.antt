@@ -1,3 +1,3 @@
-mod Conditions
+pub mod Conditions
 pub mod TableLaw
 pub mod ReadTables

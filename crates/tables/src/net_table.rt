@@ -1,30 +1,36 @@
 //! A make of net that holds the answers of another.
-ghost use Rattle.std.specs.Prelude.{◌≡◌, ℕ, ◌<◌, ◌≤◌, true};
+ghost use Rattle.std.specs.Prelude.{◌≡◌, ℕ, ◌<◌, ◌≤◌, true, nat_lt};
+ghost use Rattle.place_sets.specs.Flags.{has};
 ghost use Rattle.table_law.proofs.TableLaw.{table_lawful};
 ghost use Rattle.table_law.specs.Tables.{cell, yields_somewhere, table_net};
 ghost use Rattle.theory.specs.Rows.{at};
 
-use crate::reads::read_yields;
+use crate::reads::{read_places, read_yields};
 use nets::inputs::inputs_of;
 use nets::net::{MOST_PLACES, MOST_STEPS, Net};
+use place_sets::PlaceSet;
 
-/// The answers of a net: the input of each step, and a row of yields for each step.
+/// The answers of a net: the input of each step, and for each step a row of yields and the set of their places.
 #[derive(Drop)]
 pub struct NetTable {
     places: u8,
     steps: u16,
-    // Two rows by step and not one of structs, which would be no plainer: `inputs_of` gives the first row whole, for
+    // Three rows by step and not one of structs, which would be no plainer: `inputs_of` gives the first row whole, for
     // schedules too.
     inputs: [u8; MOST_STEPS],
     yields: [[u8; MOST_PLACES]; MOST_STEPS],
+    yield_places: [PlaceSet; MOST_STEPS],
     // Six fields and not one with the whole law: that names a place where a step yields, so it may hold
-    // in several ways, and a ghost field in one way only.
+    // in several ways, and a ghost field in one way only. Two more: the rows hold the yields outside the net too, and
+    // the sets are the places of the rows.
     ghost some_place: { 1 ≤ places },
     ghost few_places: { places ≤ 64 },
     ghost few_steps: { steps ≤ 128 },
     ghost inputs_inside: { (t : ℕ) → t < steps → at inputs t < places },
     ghost yields_small: { (t p : ℕ) → t < steps → p < places → cell yields t p ≤ 255 },
     ghost yields_something: { (t : ℕ) → t < steps → yields_somewhere yields places t ≡ true },
+    ghost nothing_outside: { (t p : ℕ) → cell yields t p ≡ (table_net places steps inputs yields).yields t p },
+    ghost places_held: { (t p : ℕ) → has (at yield_places t) p ≡ nat_lt 0 (cell yields t p) },
 }
 
 impl NetTable {
@@ -37,6 +43,7 @@ impl NetTable {
             steps: net.steps(),
             inputs: inputs_of(net),
             yields: read_yields(net),
+            yield_places: read_places(net),
         }
     }
 }
@@ -65,6 +72,22 @@ impl Net for NetTable {
             self.yields[usize::from(step)][usize::from(place)]
         } else {
             0
+        }
+    }
+
+    fn yields(&self, step: u16) -> [u8; MOST_PLACES] {
+        if step < self.steps {
+            self.yields[usize::from(step)]
+        } else {
+            [0; MOST_PLACES]
+        }
+    }
+
+    fn yield_places(&self, step: u16) -> PlaceSet {
+        if step < self.steps {
+            self.yield_places[usize::from(step)]
+        } else {
+            PlaceSet::empty()
         }
     }
 }

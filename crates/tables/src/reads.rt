@@ -1,36 +1,32 @@
-//! Reading the yields of a net into rows.
-ghost use Rattle.std.specs.Prelude.{◌≡◌, ℕ, ◌<◌};
+//! Reading the yields of a net into rows, and the places of them into sets.
+ghost use Rattle.std.specs.Prelude.{◌≡◌, ℕ, nat_lt};
+ghost use Rattle.place_sets.specs.Flags.{has};
 ghost use Rattle.table_law.specs.Tables.{cell};
 ghost use Rattle.theory.specs.Rows.{at};
 
 use nets::net::{MOST_PLACES, MOST_STEPS, Net};
-use std::array;
+use place_sets::PlaceSet;
 
-/// Reads the yields of a step at each place; zeros past the last place and the last step.
-fn read_row<N: Net>(net: &N, step: u16) -> [u8; MOST_PLACES]
-    ensures { (p : ℕ) → p < (N.meaning net.now).net.places → at result p ≡ (N.meaning net.now).net.yields step p }
+// Zeros and empty sets first, so that a net of few steps is asked few times.
+
+/// How many blocks each step puts down at each place; zeros past the last step.
+pub(crate) fn read_yields<N: Net>(net: &N) -> [[u8; MOST_PLACES]; MOST_STEPS]
+    ensures { (t p : ℕ) → cell result t p ≡ (N.meaning net.now).net.yields t p }
 {
-    if step >= net.steps() {
-        return [0; MOST_PLACES];
+    let mut rows = [[0; MOST_PLACES]; MOST_STEPS];
+    for step in 0..net.steps() {
+        rows[usize::from(step)] = net.yields(step);
     }
-    let places = net.places();
-    // an index of the array, so the cast keeps it
-    array::from_fn(|place| if place < usize::from(places) {
-        net.yield_at(step, place as u8)
-    } else {
-        0
-    })
+    rows
 }
 
-/// Reads the yields of each step.
-pub(crate) fn read_yields<N: Net>(net: &N) -> [[u8; MOST_PLACES]; MOST_STEPS]
-    ensures { (t p : ℕ) → t < (N.meaning net.now).net.steps → p < (N.meaning net.now).net.places → cell result t p ≡ (N.meaning net.now).net.yields t p }
+/// The places at which each step puts blocks down; none past the last step.
+pub(crate) fn read_places<N: Net>(net: &N) -> [PlaceSet; MOST_STEPS]
+    ensures { (t p : ℕ) → has (at result t) p ≡ nat_lt 0 ((N.meaning net.now).net.yields t p) }
 {
-    // an index of the array, so the cast keeps it
-    array::from_fn(
-        |step| -> [u8; MOST_PLACES]
-            requires { step < 128 }
-            ensures { (p : ℕ) → p < (N.meaning net.entry.now).net.places → at result p ≡ (N.meaning net.entry.now).net.yields step p }
-        { read_row(net, step as u16) },
-    )
+    let mut sets = [PlaceSet::empty(); MOST_STEPS];
+    for step in 0..net.steps() {
+        sets[usize::from(step)] = net.yield_places(step);
+    }
+    sets
 }

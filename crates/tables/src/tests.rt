@@ -27,5 +27,14 @@ fn a_table_answers_as_its_net(rt: HostRuntime) -> Result<(), Fail> {
         (net.yield_at(1, 2), net.yield_at(1, 3), net.yield_at(2, 0)),
         (0, 0, 0)
     );
+    let yields = net.yields(1);
+    assert_eq!(rt; (yields[0], yields[1], yields[2]), (1, 5, 0));
+    let places = net.yield_places(1);
+    assert_eq!(rt;
+        (places.has(0), places.has(1), places.has(2)),
+        (true, true, false)
+    );
+    assert_eq!(rt; net.yields(2)[0], 0);
+    assert!(rt; net.yield_places(2).is_empty());
     Ok(())
 }

@@ -1,0 +1,7 @@
+use Rattle.std.proofs.Common.{◌-◌}
+use Rattle.formats.specs.Chained.{chained_arcs}
+use Rattle.nets.proofs.Walks.{Gathered}
+use Rattle.nets.proofs.chained.chain_places.Given as goal
+
+abbrev pub invariant-loop-seen : goal.invariant-loop-seen
+invariant-loop-seen l = Gathered l.file l.first (chained_arcs l.file - l._seen) l.arc l.places
