@@ -39,6 +39,7 @@ pub fn yields_of<N: Net>(net: &N, step: u16) -> u32
     ensures answer { result ≡ yields_of (N.meaning net.now).net step }
     ensures bound { result < 2 ^ 14 }
 {
+    // `map` and `sum` of the row were tried: that the sum fits, since each term is a byte, stayed open.
     let mut sum = 0;
     for blocks in &net.yields(step) {
         sum += u32::from(*blocks);
