@@ -38,8 +38,8 @@ fn add_yields(row: &mut [u32; MOST_PLACES], yields: &[u8; MOST_PLACES], times: u
     requires { (p : ℕ) → at row.old p < 2 ^ 31 }
     ensures { (p : ℕ) → at row.new p ≡ at row.old p + times * at yields.now p }
 {
-    // By index: over `iter_mut` zipped with the yields, a proof would not know the row between two turns. Both lengths
-    // are known, so this too becomes vector code.
+    // by index: over `iter_mut` zipped with the yields, a proof would not know the row between two turns; both lengths
+    // are known, so this too becomes vector code
     for place in 0..MOST_PLACES {
         row[place] += u32::from(times) * u32::from(yields[place]);
     }
