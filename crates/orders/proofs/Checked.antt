@@ -22,17 +22,19 @@ module _ (N : NetMeaning) (counts : Marking) (spare : ℕ) (done tally numbers :
       sym (ap sizes e) ∙ h
 
   -- the causes, as the row of the board's counts and the known kind were asked for them
-  pub causes_as_asked : (row : List ℕ) (kind : Kind) (o : Option Refusal) → ((p : ℕ) → at row p ≡ counts p) → byte ≡ byte_of kind →
-      cause_refusal N (at row) (at tally) (target_with numbers kind) ≡ o → cause_refusal N counts (at tally) (target_of numbers byte) ≡ o
-  causes_as_asked row kind o counted known h =
-      let causes : Marking → Target → Option Refusal = λ m t. cause_refusal N m (at tally) t in
-      sym (ap (λ m. causes m (target_with numbers kind)) (fun_ext counted) ∙ ap (λ z. causes counts (target_of numbers z)) (sym known)) ∙ h
+  module _ (M : NetMeaning) (row tally' numbers' : List ℕ) (kind kind' : Kind) (net : M ≡ N) (counted : (p : ℕ) → at row p ≡ counts p)
+      (same_tally : tally' ≡ tally) (same_numbers : numbers' ≡ numbers) (same_kind : kind' ≡ kind) (known : byte ≡ byte_of kind) where
+    pub causes_as_asked : (o : Option Refusal) →
+        cause_refusal M (at row) (at tally') (target_with numbers' kind') ≡ o → cause_refusal N counts (at tally) (target_of numbers byte) ≡ o
+    causes_as_asked o h =
+        let asked : cause_refusal M (at row) (at tally') (target_with numbers' kind') ≡ cause_refusal N (at row) (at tally) (target_with numbers kind) = cc in
+        let causes : Marking → Target → Option Refusal = λ m t. cause_refusal N m (at tally) t in
+        sym (asked ∙ ap (λ m. causes m (target_with numbers kind)) (fun_ext counted) ∙ ap (λ z. causes counts (target_of numbers z)) (sym known)) ∙ h
 
-  -- neither refuses
-  pub accepted_as_asked : (asked : ℕ) (row : List ℕ) (kind : Kind) → asked ≡ spare → ((p : ℕ) → at row p ≡ counts p) →
-      (size_refusal N (held counts asked done) tally (target_of numbers byte) memory ≡ None) × (byte ≡ byte_of kind) →
-      cause_refusal N (at row) (at tally) (target_with numbers kind) ≡ None →
-      resume_refusal N (held counts spare done) tally (target_of numbers byte) memory ≡ None
-  accepted_as_asked asked row kind e counted checked h =
-      or_none (size_refusal N (held counts spare done) tally (target_of numbers byte) memory) (cause_refusal N counts (at tally) (target_of numbers byte))
-      (sizes_as_asked asked None e checked.0) (causes_as_asked row kind None counted checked.1 h)
+    -- neither refuses
+    pub accepted_as_asked : (asked : ℕ) → asked ≡ spare → size_refusal N (held counts asked done) tally (target_of numbers byte) memory ≡ None →
+        cause_refusal M (at row) (at tally') (target_with numbers' kind') ≡ None →
+        resume_refusal N (held counts spare done) tally (target_of numbers byte) memory ≡ None
+    accepted_as_asked asked e sizes h =
+        or_none (size_refusal N (held counts spare done) tally (target_of numbers byte) memory) (cause_refusal N counts (at tally) (target_of numbers byte))
+        (sizes_as_asked asked None e sizes) (causes_as_asked None h)

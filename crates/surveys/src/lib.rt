@@ -34,13 +34,7 @@ pub fn list_findings<'a, N: Net, B: Board>(
 {
     let kind = check_survey(net, done, tally, target, memory.len())?;
     let counts = all_counts(board);
-    let asked = Asked {
-        net,
-        counts: &counts,
-        tally,
-        target: target.numbers,
-        kind,
-    };
+    let asked = Asked::new(net, &counts, tally, target.numbers, kind);
     let places = u16::from(net.places());
     let cut_off = Schedule::new(net, &counts, tally).cut_off();
     let mut findings = BoundedList::new(memory);

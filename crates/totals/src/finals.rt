@@ -1,34 +1,72 @@
 //! Final numbers: what a tally leaves at each place, and the places that are short or miss a target.
-ghost use Rattle.std.specs.Prelude.{◌≡◌, ◌+◌, ◌^◌, ◌<◌, pos, ◌-ℤ◌, neg_ℤ, ◌<ℤ◌};
+ghost use Rattle.std.specs.Prelude.{◌≡◌, ℕ, ◌+◌, ◌^◌, ◌<◌, pos, ◌-ℤ◌, neg_ℤ, ◌<ℤ◌};
 ghost use Rattle.answers.specs.Answers.{is_missed};
 ghost use Rattle.answers.specs.Kinds.{target_with};
 ghost use Rattle.theory.specs.Rows.{at};
-ghost use Rattle.theory.specs.Tallies.{gained, final_number};
+ghost use Rattle.theory.specs.Tallies.{spent, gained, final_number};
 ghost use Rattle.theory.specs.Tests.{least, is_short};
 
-use crate::asked::{gained, spent};
+use crate::by_place::{gained_by_place, spent_by_place};
 use answers::Kind;
-use nets::net::Net;
+use nets::net::{MOST_PLACES, Net};
 use searches::least_below;
 
 /// A tally asked of a net, with the blocks at its places and the target that it is to meet.
 #[derive(Drop)]
-pub struct Asked<'a, N> {
+pub struct Asked<'a, N: Net> {
     pub net: &'a N,
     pub counts: &'a [u32],
     pub tally: &'a [u16],
     pub target: &'a [u32],
     pub kind: Kind,
+    // Found once for all places, since most calls ask of each place.
+    spent_at: [u32; MOST_PLACES],
+    gained_at: [u32; MOST_PLACES],
+    ghost spent: { (p : ℕ) → at spent_at p ≡ spent (N.meaning net.now).net (at tally.now) p },
+    ghost gained: { (p : ℕ) → at gained_at p ≡ gained (N.meaning net.now).net (at tally.now) p },
 }
 
-impl<N: Net> Asked<'_, N> {
+impl<'a, N: Net> Asked<'a, N> {
+    /// Asks the tally of the net.
+    pub fn new(
+        net: &'a N,
+        counts: &'a [u32],
+        tally: &'a [u16],
+        target: &'a [u32],
+        kind: Kind,
+    ) -> Asked<'a, N>
+        ensures net { result.net.now ≡ net.now }
+        ensures counts { result.counts.now ≡ counts.now }
+        ensures tally { result.tally.now ≡ tally.now }
+        ensures target { result.target.now ≡ target.now }
+        ensures kind { result.kind ≡ kind }
+    {
+        Asked {
+            net,
+            counts,
+            tally,
+            target,
+            kind,
+            spent_at: spent_by_place(net, tally),
+            gained_at: gained_by_place(net, tally),
+        }
+    }
+
+    /// The blocks that are spent at the place.
+    fn spent(&self, place: u8) -> u32
+        ensures { result ≡ spent (N.meaning self.now.net.now).net (at self.now.tally.now) place }
+    {
+        self.spent_at.get(usize::from(place)).copied().unwrap_or(0)
+    }
+
     /// The blocks that the place has and gains.
     fn has_and_gains(&self, place: u8) -> u64
         ensures answer { result ≡ at self.now.counts.now place + gained (N.meaning self.now.net.now).net (at self.now.tally.now) place }
         ensures bound { result < 2 ^ 49 }
     {
         let has = self.counts.get(usize::from(place)).copied().unwrap_or(0);
-        u64::from(has) + gained(self.net, self.tally, place)
+        let gains = self.gained_at.get(usize::from(place)).copied().unwrap_or(0);
+        u64::from(has) + u64::from(gains)
     }
 
     /// The blocks that the target wants at the place; 0 past its end.
@@ -42,7 +80,7 @@ impl<N: Net> Asked<'_, N> {
     pub fn is_short(&self, place: u8) -> bool
         ensures { result ≡ is_short (N.meaning self.now.net.now).net (at self.now.counts.now) (at self.now.tally.now) place }
     {
-        self.has_and_gains(place) < spent(self.net, self.tally, place)
+        self.has_and_gains(place) < u64::from(self.spent(place))
     }
 
     /// The final number of the place.
@@ -50,8 +88,8 @@ impl<N: Net> Asked<'_, N> {
         ensures answer { result ≡ final_number (N.meaning self.now.net.now).net (at self.now.counts.now) (at self.now.tally.now) place }
         ensures bound { (neg_ℤ (pos (2 ^ 48)) <ℤ result) × (result <ℤ pos (2 ^ 49)) }
     {
-        // both are below 2^49, so the casts keep them
-        self.has_and_gains(place) as i64 - spent(self.net, self.tally, place) as i64
+        // below 2^49, so the cast keeps it
+        self.has_and_gains(place) as i64 - i64::from(self.spent(place))
     }
 
     /// Whether the final number of the place differs from an exact target, or lies below an
@@ -60,7 +98,7 @@ impl<N: Net> Asked<'_, N> {
         ensures { result ≡ is_missed (N.meaning self.now.net.now).net (at self.now.counts.now) (at self.now.tally.now) (target_with self.now.target.now self.now.kind) place }
     {
         let here = self.has_and_gains(place);
-        let wanted = u64::from(self.wanted(place)) + spent(self.net, self.tally, place);
+        let wanted = u64::from(self.wanted(place)) + u64::from(self.spent(place));
         match self.kind {
             Kind::Exact => here != wanted,
             Kind::AtLeast => here < wanted,

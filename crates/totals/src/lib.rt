@@ -2,6 +2,7 @@
 #![tactic(auto)]
 
 pub mod asked;
+pub mod by_place;
 pub mod finals;
 pub mod sums;
 #[cfg(test)]

@@ -1,5 +1,6 @@
 //! Totals and final numbers of small nets, worked out by hand.
-use crate::asked::{done_total, gained, spent, steps_asked, yields_asked, yields_of};
+use crate::asked::{done_total, steps_asked, yields_asked, yields_of};
+use crate::by_place::{gained_by_place, spent_by_place};
 use crate::finals::Asked;
 use answers::Kind;
 use nets::grid::GridNet;
@@ -22,23 +23,29 @@ fn tripler<'a>(rt: &impl Abort, file: &'a [u8]) -> Result<(), Fail> {
         (3, 1, 0)
     );
     assert_eq!(rt; yields_asked(&net, &tally), 10);
-    assert_eq!(rt; (spent(&net, &tally, 0), gained(&net, &tally, 0)), (2, 4));
-    assert_eq!(rt; (spent(&net, &tally, 1), gained(&net, &tally, 1)), (4, 6));
+    let spent = spent_by_place(&net, &tally);
+    let gained = gained_by_place(&net, &tally);
+    assert_eq!(rt; (spent[0], gained[0]), (2, 4));
+    assert_eq!(rt; (spent[1], gained[1]), (4, 6));
+    assert_eq!(rt; (spent[2], gained[2]), (0, 0));
     Ok(())
 }
 
 fn detour<'a>(rt: &impl Abort, file: &'a [u8]) -> Result<(), Fail> {
     let mut net: GridNet<'a> = GridNet::new();
     net.load(file)?;
-    let asked = Asked {
-        net: &net,
-        counts: &[1, 0, 0],
-        tally: &[0, 1, 2],
-        target: &[0, 0, 0],
-        kind: Kind::AtLeast,
-    };
-    final_numbers(rt, &asked)?;
-    missed_numbers(rt, &asked)
+    let (counts, tally) = ([1, 0, 0], [0, 1, 2]);
+    let at_least = Asked::new(&net, &counts, &tally, &[0, 0, 0], Kind::AtLeast);
+    final_numbers(rt, &at_least)?;
+    assert_eq!(rt;
+        (at_least.least_missed(), at_least.missed_by(1)),
+        (Some(1), -1)
+    );
+    let exact = Asked::new(&net, &counts, &tally, &[0, 0, 0], Kind::Exact);
+    assert_eq!(rt; (exact.least_missed(), exact.missed_by(0)), (Some(0), 2));
+    let met = Asked::new(&net, &counts, &tally, &[2, 0, 0], Kind::Exact);
+    assert_eq!(rt; met.is_missed(2), false);
+    Ok(())
 }
 
 fn final_numbers(rt: &impl Abort, asked: &Asked<'_, GridNet<'_>>) -> Result<(), Fail> {
@@ -54,24 +61,6 @@ fn final_numbers(rt: &impl Abort, asked: &Asked<'_, GridNet<'_>>) -> Result<(), 
         (asked.is_short(0), asked.is_short(1), asked.least_short()),
         (false, true, Some(1))
     );
-    Ok(())
-}
-
-fn missed_numbers(rt: &impl Abort, at_least: &Asked<'_, GridNet<'_>>) -> Result<(), Fail> {
-    assert_eq!(rt;
-        (at_least.least_missed(), at_least.missed_by(1)),
-        (Some(1), -1)
-    );
-    let exact = Asked {
-        kind: Kind::Exact,
-        ..*at_least
-    };
-    assert_eq!(rt; (exact.least_missed(), exact.missed_by(0)), (Some(0), 2));
-    let met = Asked {
-        target: &[2, 0, 0],
-        ..exact
-    };
-    assert_eq!(rt; met.is_missed(2), false);
     Ok(())
 }
 

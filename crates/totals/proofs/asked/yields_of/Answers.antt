@@ -1,23 +1,25 @@
-use Rattle.std.proofs.Common.{◌≡◌, rules, ap, ◌∙◌, arith}
-use Rattle.answers.specs.States.{yields_of}
+use Rattle.std.proofs.Common.{◌≡◌, sym, ap, ◌∙◌, arith}
+use Rattle.theory.specs.Rows.{at}
 use Rattle.theory.specs.Sums.{sum_to}
-use Rattle.totals.proofs.Bounds.{yields_few}
-use Rattle.totals.proofs.asked.yields_of.Given as given
+use Rattle.theory.proofs.SumLaws.{sum_to_suc, sum_to_zero, sum_to_same}
+use Rattle.answers.proofs.Histories.{sum_past}
 use Rattle.totals.proofs.asked.yields_of.Goals as goal
 
-total : (g : given.Over) (c : goal.After-sum_below g) →
-    c.sum_below.result ≡ yields_of (g.N.Net.meaning c.args.net.now).net c.args.step
-total g c =
-    let N = (g.N.Net.meaning c.args.net.now).net in
-    c.sum_below.ensures.answer (N.yields c.args.step) (λ k r l e. search rules)
-    ∙ ap (sum_to (N.yields c.args.step)) (c.from.ensures ∙ c.places.ensures)
+pub loop-blocks-init : goal.loop-blocks-init
+loop-blocks-init g c = (sym (sum_to_zero _), omega arith)
 
-pub overflow_cast-result : goal.overflow_cast-result
-overflow_cast-result g c =
-    let N = g.N.Net.meaning c.args.net.now in
-    omega (arith, total g c, yields_few N.net N.law c.args.step)
+pub loop-blocks-preserved : goal.loop-blocks-preserved
+loop-blocks-preserved g c =
+    let N = g.N.Net.meaning c.args.net.now in (
+      omega (arith, sum_to_suc (at c.yields.result) c.loop-blocks.blocks-index, c.loop-blocks.invariant.0, c.from-sum.ensures),
+      omega (arith, c.loop-blocks.invariant.1, c.from-sum.ensures, c.yields.ensures c.loop-blocks.blocks-index, N.law.yields_small c.args.step c.loop-blocks.blocks-index),
+    )
 
-pub returns-clause-bound : goal.returns-clause-bound
-returns-clause-bound g c =
+pub returns-clause-answer : goal.returns-clause-answer
+returns-clause-answer g c =
     let N = g.N.Net.meaning c.args.net.now in
-    omega (arith, total g c, yields_few N.net N.law c.args.step)
+    let all : c.loop-blocks.blocks-index ≡ 64 = omega arith in
+    c.loop-blocks.invariant.0
+    ∙ ap (sum_to (at c.yields.result)) all
+    ∙ sum_to_same (at c.yields.result) (N.net.yields c.args.step) 64 (λ p _. c.yields.ensures p)
+    ∙ sum_past (N.net.yields c.args.step) N.net.places 64 N.law.few_places (λ p. N.law.no_yield_outside_places c.args.step p)
