@@ -13,7 +13,7 @@ second_fails : (x y : Bool) → x ≡ true → (x && y) ≡ false → y ≡ fals
 second_fails x y h e = ⊎_elim (λ f. absurd (both_ways x f h)) (λ g. g) (and_cases x y e)
 
 pub first_is_least : (b : ℕ → Bool) (n w : ℕ) → ((p : ℕ) → has w p ≡ (ltb p n && b p)) →
-    (r : Option ℕ) → MatchOption r (Empty w) (IsFirst w) → r ≡ least b n
+    (r : Option ℕ) → MatchOption r (Empty w) (IsFirst 64 w) → r ≡ least b n
 first_is_least b n w same None none =
     sym ((none_found b n).1 (λ k h. second_fails (ltb k n) (b k) (lt-ltb k n h) (sym (same k) ∙ none k)))
 first_is_least b n w same (Some p) first =

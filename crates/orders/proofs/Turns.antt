@@ -5,7 +5,7 @@ use Rattle.refusals.specs.declared.Refusal.{Refusal}
 use Rattle.theory.specs.Nets.{NetMeaning, NetLaw}
 use Rattle.theory.specs.Firing.{Marking, fired}
 use Rattle.theory.specs.Tallies.{Tally, Realizable, NoPlaceCutOff, steps_asked}
-use Rattle.theory.specs.Orders.{less}
+use Rattle.theory.specs.Orders.{less, Safe}
 use Rattle.theory.specs.Tests.{least, safe}
 use Rattle.theory.proofs.SumLaws.{le_sum_to}
 use Rattle.theory.proofs.TallySums.{sum_find}
@@ -35,34 +35,38 @@ some_left N law m x can some none =
     (λ nothing. omega arith)
     (sum_find x N.steps)
 
--- a step that can be fired, with room for its yields, is moved
-pub must_move : (N : NetMeaning) (t : ℕ) (b : Bool) (m : Marking) (spare : ℕ) (m' : Marking) (spare' : ℕ) →
-    t < N.steps → 0 < m (N.input t) → yields_of N t ≤ spare + 1 → b ≡ can_move N m spare t → Moved N t b m spare m' spare' →
-    (m' ≡ fired N m t) × (spare' ≡ (spare + 1) - yields_of N t)
-must_move N t true m spare m' spare' step holds room e moved = moved
-must_move N t false m spare m' spare' step holds room e moved =
-    absurd (true≢false (sym (and_from (ltb t N.steps) _ (lt-ltb t N.steps step) (and_from (ltb 0 (m (N.input t))) _ (lt-ltb 0 (m (N.input t)) holds) (ap not (le-ltb (spare + 1) (yields_of N t) room)))) ∙ sym e))
+-- a step that finds a block, with room for its yields, can be moved
+pub can_be_moved : (N : NetMeaning) (t : ℕ) (m : Marking) (spare : ℕ) →
+    t < N.steps → 0 < m (N.input t) → yields_of N t ≤ spare + 1 → can_move N m spare t ≡ true
+can_be_moved N t m spare step holds room =
+    and_from (ltb t N.steps) _ (lt-ltb t N.steps step) (and_from (ltb 0 (m (N.input t))) _ (lt-ltb 0 (m (N.input t)) holds) (ap not (le-ltb (spare + 1) (yields_of N t) room)))
 
 -- the yields fit beside the blocks of a board
 pub board_room : (N : NetMeaning) → NetLaw N → (m : Marking) (spare t : ℕ) → BoardLaw m spare → Room N m t
 board_room N law m spare t bounded p inside =
     omega (arith, le_sum_to m 64 p (omega (arith, law.few_places)), law.yields_small t p)
 
-pub turn :
-    {X : Type 0} (N : NetMeaning) → NetLaw N →
-    (m₀ : Marking) (x₀ : Tally) (spare₀ : ℕ) (lent : List ℕ) (k : ℕ) (s : Schedule) (m : Marking) (spare : ℕ) (memory : List ℕ) (len : ℕ) →
-    Going N m₀ x₀ spare₀ lent k s m spare memory len → k < length lent → BoardLaw m spare →
-    (t : ℕ) → ((x : Tally) → Shows N m x s → NoPlaceCutOff N m x → Some t ≡ least (safe N m x) N.steps) →
-    (b : Bool) (m' : Marking) (spare' : ℕ) → b ≡ can_move N m spare t → Moved N t b m spare m' spare' →
-    (s' : Schedule) → ((x : Tally) → Shows N m x s → Ready N m x t → Room N m t → Shows N (fired N m t) (less x t) s') →
-    (r : Result X Refusal) (memory' : List ℕ) (len' : ℕ) → Adds t memory len r memory' len' →
-    Going N m₀ x₀ spare₀ lent (k + 1) s' m' spare' memory' len'
-turn N law m₀ x₀ spare₀ lent k s m spare memory len g room bounded t found b m' spare' answer moved s' shown r memory' len' adds =
-    let x = g.tally in
-    let best = found_safe N law m x t g.can (sym (found x g.shows (none_cut_off N law m x g.can))) in
-    let is-safe = best.0 in
-    let fits : yields_of N t ≤ spare + 1 = omega (arith, g.room, asked_less N x t is-safe.0 is-safe.1) in
-    let left = must_move N t b m spare m' spare' is-safe.0 is-safe.2 fits answer moved in
-    let ready : Ready N m x t = record { a_step = is-safe.0; left = is-safe.1; holds = is-safe.2 } in
-    going_more N law m₀ x₀ spare₀ lent k s m spare memory len g t is-safe best.1
-    s' (shown x g.shows ready (board_room N law m spare t bounded)) m' spare' left.0 left.1 r memory' len' room adds
+module _ (N : NetMeaning) (law : NetLaw N)
+    (m₀ : Marking) (x₀ : Tally) (spare₀ : ℕ) (lent : List ℕ) (k : ℕ) (s : Schedule) (m : Marking) (spare : ℕ) (memory : List ℕ) (len : ℕ)
+    (g : Going N m₀ x₀ spare₀ lent k s m spare memory len)
+    (t : ℕ) (found : (x : Tally) → Shows N m x s → NoPlaceCutOff N m x → Some t ≡ least (safe N m x) N.steps) where
+  abbrev x : Tally
+  x = g.tally
+
+  best : Safe N m x t × ((u : ℕ) → u < t → Safe N m x u → ⊥)
+  best = found_safe N law m x t g.can (sym (found x g.shows (none_cut_off N law m x g.can)))
+
+  -- the step that was found can be moved
+  pub found_moves : can_move N m spare t ≡ true
+  found_moves =
+      can_be_moved N t m spare best.0.0 best.0.2 (omega (arith, g.room, asked_less N x t best.0.0 best.0.1))
+
+  pub turn : {X : Type 0} → k < length lent → BoardLaw m spare →
+      (m' : Marking) (spare' : ℕ) → Moved N t true m spare m' spare' →
+      (s' : Schedule) → ((x : Tally) → Shows N m x s → Ready N m x t → Room N m t → Shows N (fired N m t) (less x t) s') →
+      (r : Result X Refusal) (memory' : List ℕ) (len' : ℕ) → Adds t memory len r memory' len' →
+      Going N m₀ x₀ spare₀ lent (k + 1) s' m' spare' memory' len'
+  turn room bounded m' spare' moved s' shown r memory' len' adds =
+      let ready : Ready N m x t = record { a_step = best.0.0; left = best.0.1; holds = best.0.2 } in
+      going_more N law m₀ x₀ spare₀ lent k s m spare memory len g t best.0 best.1
+      s' (shown x g.shows ready (board_room N law m spare t bounded)) m' spare' moved.0 moved.1 r memory' len' room adds

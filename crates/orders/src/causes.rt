@@ -2,24 +2,22 @@
 ghost use Rattle.answers.specs.Answers.{cause_refusal};
 ghost use Rattle.answers.specs.Kinds.{target_with};
 ghost use Rattle.refusals.specs.Answered.{answered};
-ghost use Rattle.schedules.specs.Shows.{Shows};
 ghost use Rattle.theory.specs.Rows.{at};
 ghost use Rattle.std.specs.Prelude.{◌≡◌};
 
 use nets::net::Net;
+use reached::cut_off::cut_off_places;
 use refusals::Refusal;
-use schedules::schedule::Schedule;
 use totals::finals::Asked;
 
 /// Refused for the least short place, else for the least cut-off place, else for the least missed place.
-pub(crate) fn check_causes<N: Net>(asked: &Asked<'_, N>, schedule: &Schedule) -> Result<(), Refusal>
-    requires { Shows (N.meaning asked.now.net.now).net (at asked.now.counts.now) (at asked.now.tally.now) schedule.now }
+pub(crate) fn check_causes<N: Net>(asked: &Asked<'_, N>) -> Result<(), Refusal>
     ensures { result ≡ answered (cause_refusal (N.meaning asked.now.net.now).net (at asked.now.counts.now) (at asked.now.tally.now) (target_with asked.now.target.now asked.now.kind)) tt }
 {
     if let Some(place) = asked.least_short() {
         return Err(Refusal::Short(place));
     }
-    if let Some(place) = schedule.cut_off().first() {
+    if let Some(place) = cut_off_places(asked.net, asked.counts, asked.tally).first() {
         return Err(Refusal::CutOff(place));
     }
     if let Some(place) = asked.least_missed() {

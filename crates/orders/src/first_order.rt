@@ -9,7 +9,7 @@ ghost use Rattle.theory.specs.Tallies.{Realizable, steps_asked};
 ghost use Rattle.theory.specs.Tests.{first_order};
 
 use boards::board::Board;
-use firings::move_blocks;
+use firings::move_ready;
 use lists::BoundedList;
 use nets::net::Net;
 use schedules::schedule::Schedule;
@@ -37,7 +37,7 @@ pub(crate) fn fire_first_order<N: Net, B: Board>(
     // Turns are counted, since the order has as many steps as the tally asks for: so the loop is seen to end.
     for _ in 0..steps_asked(net, tally) {
         if let Some(step) = schedule.next_step() {
-            let _ = move_blocks(net, board, step);
+            move_ready(net, board, step);
             schedule.fire(net, step);
             let _ = order.add(step);
         }

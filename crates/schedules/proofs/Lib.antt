@@ -3,4 +3,4 @@ mod Marked
 mod Moved
 mod Counting
 mod SafeFirings
-mod Chosen
+pub mod Chosen

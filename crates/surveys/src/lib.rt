@@ -14,8 +14,8 @@ use causes::{cut_off_at, missed_at, short_at};
 use checks::{Target, check_survey};
 use lists::{BoundedList, add_found};
 use nets::net::Net;
+use reached::cut_off::cut_off_places;
 use refusals::Refusal;
-use schedules::schedule::Schedule;
 use totals::finals::Asked;
 
 /// Lists every short place, then every cut-off place, then every missed place, each by rising place,
@@ -36,7 +36,7 @@ pub fn list_findings<'a, N: Net, B: Board>(
     let counts = all_counts(board);
     let asked = Asked::new(net, &counts, tally, target.numbers, kind);
     let places = u16::from(net.places());
-    let cut_off = Schedule::new(net, &counts, tally).cut_off();
+    let cut_off = cut_off_places(net, &counts, tally);
     let mut findings = BoundedList::new(memory);
     // a number below the places, a byte, so the casts keep it
     let _ = add_found(&mut findings, places, |place| short_at(&asked, place as u8));

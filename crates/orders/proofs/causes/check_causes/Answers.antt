@@ -14,7 +14,7 @@ returns-in-Some-first g c =
     let x = at a.tally.now in
     let P = N.net.places in
     let T = target_with a.target.now a.kind in
-    let cut = first_is_least (is_cut_off N.net m x) P c.cut_off.result (c.cut_off.ensures N.net m x N.law c.requires) c.first.result c.first.ensures.cases in
+    let cut = first_is_least (is_cut_off N.net m x) P c.cut_off_places.result c.cut_off_places.ensures c.first.result c.first.ensures.cases in
     same_answer None (Some c.in-Some-first.place) (least (is_missed N.net m x T) P) (least (is_short N.net m x) P) (least (is_cut_off N.net m x) P) (least (is_missed N.net m x T) P)
     (sym c.in_default.is ∙ c.least_short.ensures) (sym c.in-Some-first.is ∙ cut) (refl)
 
@@ -26,7 +26,7 @@ returns-in-Some-least_missed g c =
     let x = at a.tally.now in
     let P = N.net.places in
     let T = target_with a.target.now a.kind in
-    let cut = first_is_least (is_cut_off N.net m x) P c.cut_off.result (c.cut_off.ensures N.net m x N.law c.requires) c.first.result c.first.ensures.cases in
+    let cut = first_is_least (is_cut_off N.net m x) P c.cut_off_places.result c.cut_off_places.ensures c.first.result c.first.ensures.cases in
     same_answer None None (Some c.in-Some-least_missed.place) (least (is_short N.net m x) P) (least (is_cut_off N.net m x) P) (least (is_missed N.net m x T) P)
     (sym c.in_default.is ∙ c.least_short.ensures) (sym c.in_default-first.is ∙ cut) (sym c.in-Some-least_missed.is ∙ c.least_missed.ensures)
 
@@ -38,6 +38,6 @@ returns g c =
     let x = at a.tally.now in
     let P = N.net.places in
     let T = target_with a.target.now a.kind in
-    let cut = first_is_least (is_cut_off N.net m x) P c.cut_off.result (c.cut_off.ensures N.net m x N.law c.requires) c.first.result c.first.ensures.cases in
+    let cut = first_is_least (is_cut_off N.net m x) P c.cut_off_places.result c.cut_off_places.ensures c.first.result c.first.ensures.cases in
     same_answer None None None (least (is_short N.net m x) P) (least (is_cut_off N.net m x) P) (least (is_missed N.net m x T) P)
     (sym c.in_default.is ∙ c.least_short.ensures) (sym c.in_default-first.is ∙ cut) (sym c.in_default-least_missed.is ∙ c.least_missed.ensures)

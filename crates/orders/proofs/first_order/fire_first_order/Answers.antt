@@ -8,7 +8,8 @@ use Rattle.answers.proofs.Leading.{yields_is}
 use Rattle.lists.specs.declared.BoundedList.{BoundedList}
 use Rattle.schedules.specs.declared.schedule.Schedule.{Schedule}
 use Rattle.orders.proofs.Going.{Going, going_all}
-use Rattle.orders.proofs.Turns.{turn, none_cut_off, some_left}
+use Rattle.orders.proofs.Turns.{turn, found_moves, none_cut_off, some_left}
+use Rattle.schedules.proofs.Chosen.{shows_kept}
 use Rattle.orders.proofs.first_order.fire_first_order.Goals as goal
 use Rattle.orders.proofs.first_order.fire_first_order.Goals.{in-Some, in_default}
 
@@ -30,13 +31,13 @@ loop-preserved g c =
     elim c.match-next_step.branch [
       | in-Some w ↦
           let t = w.in-Some.step in
-          let b' = w.move_blocks.new.board in
+          let b' = w.move_ready.new.board in
           let s' = w.fire.new.self in
           let o' = w.add.new.self in
-          let more = turn N.net N.law (H b₀) x₀ (R b₀) lent k s (H b) (R b) o.memory.now o.len going room (g.met.B.Board.bounded b) t
-          (λ x shows none. sym w.in-Some.is ∙ c.next_step.ensures N.net (H b) x N.law shows none)
-          w.move_blocks.result (H b') (R b') w.move_blocks.ensures.answer w.move_blocks.ensures.after
-          s' (λ x shows ready fits. w.fire.ensures.fired (H b) x shows ready fits)
+          let found = λ x shows none. sym w.in-Some.is ∙ c.next_step.ensures.answer N.net (H b) x N.law shows none in
+          let more = turn N.net N.law (H b₀) x₀ (R b₀) lent k s (H b) (R b) o.memory.now o.len going t found room (g.met.B.Board.bounded b)
+          (H b') (R b') w.move_ready.ensures
+          s' (λ x shows ready fits. w.fire.ensures.fired (H b) x (shows_kept N.net (H b) x s c.next_step.new.self c.next_step.ensures.kept shows) ready fits)
           w.add.result o'.memory.now o'.len w.add.ensures.adds in
           let P : g.row.B.Denot → Type 0 = λ z. Going N.net (H b₀) x₀ (R b₀) lent (k + 1) s' (H z) (R z) o'.memory.now o'.len in
           let Q : Schedule → Type 0 = λ z. Going N.net (H b₀) x₀ (R b₀) lent (k + 1) z (H c.match-next_step.board) (R c.match-next_step.board) o'.memory.now o'.len in
@@ -47,7 +48,7 @@ loop-preserved g c =
       | in_default w ↦
           let x = going.tally in
           absurd (some_left N.net N.law (H b) x going.can (omega (arith, going.left))
-          (sym (c.next_step.ensures N.net (H b) x N.law going.shows (none_cut_off N.net N.law (H b) x going.can)) ∙ w.in_default.is))
+          (sym (c.next_step.ensures.answer N.net (H b) x N.law going.shows (none_cut_off N.net N.law (H b) x going.can)) ∙ w.in_default.is))
     ]
 
 pub returns-clause-spare : goal.returns-clause-spare
@@ -64,3 +65,6 @@ returns-clause-spare g c =
     let all = going_all N.net (H b₀) x₀ (R b₀) c.new-order.result.memory.now c.loop.counter c.loop.schedule (H b) (R b) o.memory.now o.len going end in
     let yields = yields_is N.net (H b₀) x₀ (first_order N.net (H b₀) x₀) (computed_is_first N.net N.law.inputs_inside (H b₀) x₀ c.requires.can).realizes in
     omega (arith, going.moved, ap (yields_in N.net) all, yields, going.long, end)
+
+pub move_ready-requires : goal.move_ready-requires
+move_ready-requires g c = ?
