@@ -34,7 +34,8 @@ pub fn fire_tally<N: Net, B: Board>(
 {
     let kind = check_sizes(net, board.spare(), done, tally, target, memory.len())?;
     let counts = all_counts(board);
-    check_causes(&Asked::new(net, &counts, tally, target.numbers, kind))?;
+    let asked = Asked::new(net, &counts, tally, target.numbers, kind);
+    check_causes(&asked)?;
     let schedule = Schedule::new(net, &counts, tally);
     Ok(fire_first_order(net, board, schedule, tally, memory))
 }

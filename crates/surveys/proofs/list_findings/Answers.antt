@@ -56,12 +56,12 @@ returns g c =
     let kind : K ≡ T = ap (target_of c.args.target.numbers.now) (sym checked.1) in
     let m = at c.all_counts-counts.result in
     let counted : m ≡ H = fun_ext c.all_counts-counts.ensures.answer in
-    let word = c.cut_off-cut_off.result in
+    let word = c.cut_off_places-cut_off.result in
     let first = finding_at (is_short N.net m x) (short_finding N.net m x) in
     let second = finding_at (has word) cut_off_finding in
     let third = finding_at (is_missed N.net m x K) (missed_finding N.net m x K) in
     let cut : (p : ℕ) → p < P → has word p ≡ is_cut_off N.net m x p =
-    λ p h. c.cut_off-cut_off.ensures N.net m x N.law c.new.ensures p ∙ ap (λ z. z && is_cut_off N.net m x p) (lt-ltb p P h) in
+    λ p h. c.cut_off_places-cut_off.ensures p ∙ ap (λ z. z && is_cut_off N.net m x p) (lt-ltb p P h) in
     let groups : found_below first P ++ (found_below second P ++ found_below third P) ≡ all =
     ap (λ z. z ++ (found_below second P ++ found_below third P)) (found_by (is_short N.net m x) (is_short N.net m x) (short_finding N.net m x) P (λ p h. refl))
     ∙ ap (λ z. found (is_short N.net m x) (short_finding N.net m x) P ++ (z ++ found_below third P)) (found_by (is_cut_off N.net m x) (has word) cut_off_finding P cut)

@@ -1,12 +1,13 @@
-use Rattle.std.proofs.Common.{◌≡◌, ℕ, ◌+◌, ◌<◌, length, sym, ap, ◌∙◌, subst, arith}
+use Rattle.std.proofs.Common.{◌≡◌, Some, ℕ, ◌+◌, ◌<◌, length, sym, ap, ◌∙◌, subst, arith}
 use Rattle.theory.specs.Rows.{at}
-use Rattle.theory.specs.Tallies.{steps_asked}
-use Rattle.theory.specs.Tests.{first_order}
+use Rattle.theory.specs.Tallies.{Tally, NoPlaceCutOff, steps_asked}
+use Rattle.theory.specs.Tests.{first_order, least, safe}
 use Rattle.theory.proofs.FirstOrder.{computed_is_first}
 use Rattle.answers.specs.Calls.{yields_in}
 use Rattle.answers.proofs.Leading.{yields_is}
 use Rattle.lists.specs.declared.BoundedList.{BoundedList}
 use Rattle.schedules.specs.declared.schedule.Schedule.{Schedule}
+use Rattle.schedules.specs.Shows.{Shows}
 use Rattle.orders.proofs.Going.{Going, going_all}
 use Rattle.orders.proofs.Turns.{turn, found_moves, none_cut_off, some_left}
 use Rattle.schedules.proofs.Chosen.{shows_kept}
@@ -34,7 +35,7 @@ loop-preserved g c =
           let b' = w.move_ready.new.board in
           let s' = w.fire.new.self in
           let o' = w.add.new.self in
-          let found = λ x shows none. sym w.in-Some.is ∙ c.next_step.ensures.answer N.net (H b) x N.law shows none in
+          let found : (x : Tally) → Shows N.net (H b) x s → NoPlaceCutOff N.net (H b) x → Some t ≡ least (safe N.net (H b) x) N.net.steps = λ x shows none. sym w.in-Some.is ∙ c.next_step.ensures.answer N.net (H b) x N.law shows none in
           let more = turn N.net N.law (H b₀) x₀ (R b₀) lent k s (H b) (R b) o.memory.now o.len going t found room (g.met.B.Board.bounded b)
           (H b') (R b') w.move_ready.ensures
           s' (λ x shows ready fits. w.fire.ensures.fired (H b) x (shows_kept N.net (H b) x s c.next_step.new.self c.next_step.ensures.kept shows) ready fits)
@@ -67,4 +68,12 @@ returns-clause-spare g c =
     omega (arith, going.moved, ap (yields_in N.net) all, yields, going.long, end)
 
 pub move_ready-requires : goal.move_ready-requires
-move_ready-requires g c = ?
+move_ready-requires g c =
+    let H = g.B.Board.counts in
+    let R = g.B.Board.spare in
+    let N = g.N.Net.meaning c.args.net.now in
+    let b = c.loop.board in
+    let o = c.loop.order in
+    found_moves N.net N.law (H c.args.board.now) (at c.args.tally.now) (R c.args.board.now) c.new-order.result.memory.now c.loop.counter c.loop.schedule
+    (H b) (R b) o.memory.now o.len c.loop.invariant.1 c.in-Some.step
+    (λ x shows none. sym c.in-Some.is ∙ c.next_step.ensures.answer N.net (H b) x N.law shows none)
