@@ -7,15 +7,13 @@ use Rattle.theory.specs.Firing.{Marking, fired}
 use Rattle.theory.specs.Tallies.{Tally, Realizable, NoPlaceCutOff, steps_asked}
 use Rattle.theory.specs.Orders.{less, Safe}
 use Rattle.theory.specs.Tests.{least, safe}
-use Rattle.theory.proofs.SumLaws.{le_sum_to}
 use Rattle.theory.proofs.TallySums.{sum_find}
 use Rattle.theory.proofs.Decided.{done_exactly_if, safe_decided, safe_step_exists, none_found}
 use Rattle.answers.specs.States.{yields_of}
-use Rattle.boards.specs.Boards.{BoardLaw}
 use Rattle.firings.specs.Moves.{can_move, Moved}
 use Rattle.lists.specs.Lists.{Adds}
 use Rattle.schedules.specs.declared.schedule.Schedule.{Schedule}
-use Rattle.schedules.specs.Shows.{Shows, Ready, Room}
+use Rattle.schedules.specs.Shows.{Shows, Ready}
 use Rattle.orders.proofs.Going.{Going, found_safe, asked_less, going_more}
 
 -- of a tally that can be done no place is cut off
@@ -41,11 +39,6 @@ pub can_be_moved : (N : NetMeaning) (t : ℕ) (m : Marking) (spare : ℕ) →
 can_be_moved N t m spare step holds room =
     and_from (ltb t N.steps) _ (lt-ltb t N.steps step) (and_from (ltb 0 (m (N.input t))) _ (lt-ltb 0 (m (N.input t)) holds) (ap not (le-ltb (spare + 1) (yields_of N t) room)))
 
--- the yields fit beside the blocks of a board
-pub board_room : (N : NetMeaning) → NetLaw N → (m : Marking) (spare t : ℕ) → BoardLaw m spare → Room N m t
-board_room N law m spare t bounded p inside =
-    omega (arith, le_sum_to m 64 p (omega (arith, law.few_places)), law.yields_small t p)
-
 module _ (N : NetMeaning) (law : NetLaw N)
     (m₀ : Marking) (x₀ : Tally) (spare₀ : ℕ) (lent : List ℕ) (k : ℕ) (s : Schedule) (m : Marking) (spare : ℕ) (memory : List ℕ) (len : ℕ)
     (g : Going N m₀ x₀ spare₀ lent k s m spare memory len)
@@ -61,12 +54,12 @@ module _ (N : NetMeaning) (law : NetLaw N)
   found_moves =
       can_be_moved N t m spare best.0.0 best.0.2 (omega (arith, g.room, asked_less N x t best.0.0 best.0.1))
 
-  pub turn : {X : Type 0} → k < length lent → BoardLaw m spare →
+  pub turn : {X : Type 0} → k < length lent →
       (m' : Marking) (spare' : ℕ) → Moved N t true m spare m' spare' →
-      (s' : Schedule) → ((x : Tally) → Shows N m x s → Ready N m x t → Room N m t → Shows N (fired N m t) (less x t) s') →
+      (s' : Schedule) → ((x : Tally) → Shows N m x s → Ready N m x t → Shows N (fired N m t) (less x t) s') →
       (r : Result X Refusal) (memory' : List ℕ) (len' : ℕ) → Adds t memory len r memory' len' →
       Going N m₀ x₀ spare₀ lent (k + 1) s' m' spare' memory' len'
-  turn room bounded m' spare' moved s' shown r memory' len' adds =
+  turn room m' spare' moved s' shown r memory' len' adds =
       let ready : Ready N m x t = record { a_step = best.0.0; left = best.0.1; holds = best.0.2 } in
       going_more N law m₀ x₀ spare₀ lent k s m spare memory len g t best.0 best.1
-      s' (shown x g.shows ready (board_room N law m spare t bounded)) m' spare' moved.0 moved.1 r memory' len' room adds
+      s' (shown x g.shows ready) m' spare' moved.0 moved.1 r memory' len' room adds

@@ -37,8 +37,9 @@ pub(crate) fn fire_first_order<N: Net, B: Board>(
     // Turns are counted, since the order has as many steps as the tally asks for: so the loop is seen to end.
     for _ in 0..steps_asked(net, tally) {
         if let Some(step) = schedule.next_step() {
+            let count = board.count(schedule.input(step));
             move_ready(net, board, step);
-            schedule.fire(net, step);
+            schedule.fire(step, count);
             let _ = order.add(step);
         }
     }

@@ -31,8 +31,9 @@ module _ (N : NetMeaning) (law : NetLaw N) (m : Marking) (x : Tally) (s : Schedu
 
   keeps_shown : keeps_in s t ≡ (ltb 1 (m p) || ltb 0 (N.yields t p))
   keeps_shown =
-      ap (λ (v : ℕ). ltb 1 (at s.held v) || has_at s.yields t v) (h.inputs t)
-      ∙ ap (λ (v : ℕ). ltb 1 v || has_at s.yields t p) (h.held p (law.inputs_inside t l))
+      ap (λ (v : ℕ). has s.many v || has_at s.yields t v) (h.inputs t)
+      ∙ ap (λ (v : Bool). v || has_at s.yields t p)
+      (h.many p ∙ ap (λ (v : Bool). v && ltb 1 (m p)) (lt-ltb p N.places (law.inputs_inside t l)))
       ∙ ap (λ (v : Bool). ltb 1 (m p) || v) (h.yields t p)
 
   -- the steps in the row of takers, at the input place
@@ -123,11 +124,12 @@ a_step N m x s h t e =
 pub shows_kept : (N : NetMeaning) (m : Marking) (x : Tally) (s s' : Schedule) → Kept s s' → Shows N m x s → Shows N m x s'
 shows_kept N m x s s' k h = record {
   steps = k.steps ∙ h.steps;
-  held = λ p j. ap (λ row. at row p) k.held ∙ h.held p j;
   left = λ u j. ap (λ row. at row u) k.left ∙ h.left u j;
   inputs = λ u. ap (λ row. at row u) k.inputs ∙ h.inputs u;
   yields = λ u p. ap (λ row. has_at row u p) k.yields ∙ h.yields u p;
+  twice = λ u p. ap (λ row. has_at row u p) k.twice ∙ h.twice u p;
   marked = λ p. ap (λ set. has set p) k.marked ∙ h.marked p;
+  many = λ p. ap (λ set. has set p) k.many ∙ h.many p;
   before = λ p q. ap (λ row. has_at row p q) k.before ∙ h.before p q;
   ready = record {
     takers = λ p u. ap (λ row. has_at row p u) k.takers ∙ h.ready.takers p u;

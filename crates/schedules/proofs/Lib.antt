@@ -1,4 +1,5 @@
 mod Added
+mod Rows
 mod Marked
 mod Moved
 mod Counting

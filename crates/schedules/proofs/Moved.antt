@@ -1,85 +1,115 @@
--- A schedule shows the marking after a step once its tables are changed.
-use Rattle.std.proofs.Common.{◌≡◌, ℕ, ◌+◌, ◌-◌, ◌^◌, ◌<◌, min, Bool, cond, not, ◌&&◌, ◌||◌, eqb, ltb, List, length, set, sym, refl, ap, ◌∙◌, subst, inl, inr, arith}
-use Rattle.std.proofs.lemmas.List.{get_or-set_same, get_or-set_other, get_or_past}
-use Rattle.std.proofs.lemmas.Bool.{cases_eq, cases_lt, lt-ltb, le-ltb, cond-true, cond-false}
-use Rattle.theory.specs.Nets.{NetMeaning, NetLaw}
+-- Which places hold a block, and which more than one, after a take and after the yields of a step.
+use Rattle.std.proofs.Common.{◌≡◌, ℕ, ◌+◌, ◌-◌, ◌<◌, ◌≤◌, Bool, true, false, not, ◌&&◌, ◌||◌, eqb, ltb, sym, refl, ap, ◌∙◌, inl, inr, arith}
+use Rattle.std.proofs.lemmas.Bool.{cases_eq, cases_lt, lt-ltb, le-ltb, eq-eqb, ne_eqb, and_right}
+use Rattle.std.proofs.lemmas.Bool.Decides.{nat_tests}
+use Rattle.theory.specs.Nets.{NetMeaning}
 use Rattle.theory.specs.Rows.{at}
-use Rattle.theory.specs.Firing.{Marking, one_at, fired}
+use Rattle.theory.specs.Firing.{Marking, one_at}
 use Rattle.theory.specs.Tallies.{Tally}
-use Rattle.theory.proofs.TallySums.{one_same, one_other}
 use Rattle.place_sets.specs.Flags.{has}
-use Rattle.schedules.specs.declared.schedule.Schedule.{Schedule}
 use Rattle.reached.specs.Led.{has_at}
-use Rattle.schedules.specs.Tables.{Readied}
+use Rattle.schedules.specs.declared.schedule.Schedule.{Schedule}
+use Rattle.schedules.specs.Tables.{Readied, KeepsReady}
 use Rattle.schedules.specs.Shows.{Shows, is_left}
-use Rattle.schedules.proofs.Marked.{marked_fired}
+use Rattle.theory.proofs.TallySums.{one_same, one_other}
 
--- ROWS
+and_all : (v : Bool) → (v && not false) ≡ v
+and_all true = refl
+and_all false = refl
 
--- a number above 0 stands within its row
-within : (row : List ℕ) (i : ℕ) → 0 < at row i → i < length row
-within row i h = elim (cases_lt i (length row)) [ inl l ↦ l | inr k ↦ absurd (omega (arith, get_or_past row i 0 k)) ]
-
--- a row with 1 taken at i
-pub one_less_at : (row : List ℕ) (i j : ℕ) → 0 < at row i → at (set row i (at row i - 1)) j ≡ at row j - one_at i j
-one_less_at row i j h = elim (cases_eq j i) [
+-- the places that hold more than k blocks, after one was taken at a place
+pub more_after_take : (P k : ℕ) (m : Marking) (place : ℕ) → 0 < m place → (q : ℕ) (had has' : Bool) → had ≡ (ltb q P && ltb k (m q)) →
+    (m place ≤ k + 1 → has' ≡ (had && not (eqb q place))) → (k + 1 < m place → has' ≡ had) →
+    has' ≡ (ltb q P && ltb k (m q - one_at place q))
+more_after_take P k m place some q had has' was few many = elim (cases_eq q place) [
   | inl e ↦
-      subst (λ (k : ℕ). at (set row i (at row i - 1)) k ≡ at row k - one_at i k) (sym e)
-      (get_or-set_same row i (at row i - 1) 0 (within row i h) ∙ (omega (arith, one_same i i refl)))
-  | inr d ↦ get_or-set_other row i j (at row i - 1) 0 d ∙ (omega (arith, one_other i j (λ e. d (sym e))))
+      let same : m place ≡ m q = ap m (sym e) in
+      let one : one_at place q ≡ 1 = one_same place q (sym e) in
+      elim (cases_lt (k + 1) (m place)) [
+        | inl l ↦
+            many l ∙ was ∙ ap (λ (v : Bool). ltb q P && v) (lt-ltb k (m q) (omega arith) ∙ sym (lt-ltb k (m q - one_at place q) (omega arith)))
+        | inr h ↦
+            few h ∙ and_right had (not (eqb q place)) (ap not (eq-eqb q place e))
+            ∙ sym (and_right (ltb q P) (ltb k (m q - one_at place q)) (le-ltb k (m q - one_at place q) (omega arith)))
+      ]
+  | inr d ↦
+      let none : one_at place q ≡ 0 = one_other place q (λ e. d (sym e)) in
+      let left : had ≡ (ltb q P && ltb k (m q - one_at place q)) = was ∙ ap (λ (v : ℕ). ltb q P && ltb k v) (omega arith) in
+      elim (cases_lt (k + 1) (m place)) [
+        | inl l ↦ many l ∙ left
+        | inr h ↦ few h ∙ ap (λ (v : Bool). had && not v) (ne_eqb q place d) ∙ and_all had ∙ left
+      ]
 ]
 
--- the counts of s' are these, and else the two differ at most in which places are marked and which steps are ready
-pub record Between (s : Schedule) (row : List ℕ) (s' : Schedule) : Type 0 where
+-- the places that hold a block, after some were put down
+pub marked_after_put : (P q m y : ℕ) → (P ≤ q → y ≡ 0) → ((ltb q P && ltb 0 m) || ltb 0 y) ≡ (ltb q P && ltb 0 (m + y))
+marked_after_put P q m y outside = elim (cases_lt q P) [
+  | inl l ↦ grind (arith, nat_tests)
+  | inr h ↦ let none : y ≡ 0 = outside h in grind (arith, nat_tests)
+]
+
+-- and those that hold more than one
+pub many_after_put : (P q m y : ℕ) → (P ≤ q → y ≡ 0) →
+    (((ltb q P && ltb 1 m) || (ltb 0 y && not (ltb 0 y && not (ltb q P && ltb 0 m)))) || ltb 1 y) ≡ (ltb q P && ltb 1 (m + y))
+many_after_put P q m y outside = elim (cases_lt q P) [
+  | inl l ↦ grind (arith, nat_tests)
+  | inr h ↦ let none : y ≡ 0 = outside h in grind (arith, nat_tests)
+]
+
+-- the two differ at most in the places that hold more than one block
+pub record ButMany (s s' : Schedule) : Type 0 where
   pub steps : s'.steps ≡ s.steps
-  pub held : s'.held ≡ row
   pub left : s'.left ≡ s.left
   pub inputs : s'.inputs ≡ s.inputs
   pub yields : s'.yields ≡ s.yields
+  pub twice : s'.twice ≡ s.twice
+  pub marked : s'.marked ≡ s.marked
+  pub ready : s'.ready ≡ s.ready
+  pub takers : s'.takers ≡ s.takers
   pub before : s'.origins.before ≡ s.origins.before
-  pub ready : (left : ℕ → Bool) (input : ℕ → ℕ) → Readied left input s → Readied left input s'
 
-module _ (N : NetMeaning) (law : NetLaw N) (m : Marking) (x : Tally) (s : Schedule) (h : Shows N m x s) (t : ℕ) (l : t < N.steps) (i : 0 < m (N.input t)) where
-  abbrev place : ℕ
-  place = N.input t
+module _ (N : NetMeaning) (m : Marking) (x : Tally) (s : Schedule) (h : Shows N m x s) (place : ℕ) (some : 0 < m place)
+    (s' : Schedule) (e : ButMany s s') (few : (q : ℕ) → m place ≤ 2 → has s'.many q ≡ (has s.many q && not (eqb q place)))
+    (more : (q : ℕ) → 2 < m place → has s'.many q ≡ has s.many q) where
+  abbrev taken : Marking
+  taken q = m q - one_at place q
 
-  -- the blocks after the step
-  held_fired : (q a b : ℕ) (y : Bool) → m q + N.yields t q < 2 ^ 32 → a ≡ m q - one_at place q → y ≡ ltb 0 (N.yields t q) →
-      b ≡ cond y (min (a + N.yields t q) (2 ^ 32 - 1)) a → b ≡ fired N m t q
-  held_fired q a b y bound taken at-q put = elim (cases_lt 0 (N.yields t q)) [
-    | inl k ↦ put ∙ cond-true y (min (a + N.yields t q) (2 ^ 32 - 1)) a (at-q ∙ lt-ltb 0 (N.yields t q) k) ∙ (omega arith)
-    | inr k ↦ put ∙ cond-false y (min (a + N.yields t q) (2 ^ 32 - 1)) a (at-q ∙ le-ltb 0 (N.yields t q) k) ∙ (omega arith)
-  ]
+  many_taken : (q : ℕ) → has s'.many q ≡ (ltb q N.places && ltb 1 (taken q))
+  many_taken q = more_after_take N.places 1 m place some q (has s.many q) (has s'.many q) (h.many q) (few q) (more q)
 
-  -- the schedule with the blocks moved
-  pub shows_fired : (counted : Schedule) → (steps : counted.steps ≡ s.steps) → counted.left ≡ s.left → counted.inputs ≡ s.inputs →
-      counted.yields ≡ s.yields → counted.origins.before ≡ s.origins.before → Readied (is_left N x) N.input counted →
-      ((q : ℕ) → q < N.places → m q + N.yields t q < 2 ^ 32) → (yields : ℕ → Bool) → ((q : ℕ) → yields q ≡ has_at s.yields t q) →
-      ((q : ℕ) → q < N.places → at counted.held q
-      ≡ cond (yields q) (min (at (set s.held (at s.inputs t) (at s.held (at s.inputs t) - 1)) q + N.yields t q) (2 ^ 32 - 1))
-      (at (set s.held (at s.inputs t) (at s.held (at s.inputs t) - 1)) q)) →
-      (others : ℕ → Bool) →
-      ((q : ℕ) → at s.held (at s.inputs t) ≡ 1 → others q ≡ (has s.marked q && not (eqb q (at s.inputs t)))) →
-      ((q : ℕ) → (at s.held (at s.inputs t) ≡ 1 → ⊥) → others q ≡ has s.marked q) →
-      ((q : ℕ) → has counted.marked q ≡ (others q || yields q)) → Shows N (fired N m t) x counted
-  shows_fired s' steps left inputs yields before ready bound y yields-are held others one more marked = record {
-    steps = steps ∙ h.steps;
-    held = λ q k.
-        held_fired q (at (set s.held (at s.inputs t) (at s.held (at s.inputs t) - 1)) q) (at s'.held q) (y q) (bound q k)
-        (one_less_at s.held (at s.inputs t) q (omega (arith, holds_now))
-        ∙ ap (λ (v : ℕ). at s.held q - one_at v q) (h.inputs t) ∙ ap (λ (v : ℕ). v - one_at place q) (h.held q k))
-        (yields-are q ∙ h.yields t q) (held q k);
-    left = λ u k. ap (λ row. at row u) left ∙ h.left u k;
-    inputs = λ u. ap (λ row. at row u) inputs ∙ h.inputs u;
-    yields = λ u p. ap (λ row. has_at row u p) yields ∙ h.yields u p;
-    marked = λ q.
-        marked q ∙ ap (λ (v : Bool). others q || v) (yields-are q ∙ h.yields t q)
-        ∙ marked_fired N law m x s h t i q (others q)
-        (λ e. one q (holds_now ∙ e) ∙ ap (λ (v : ℕ). has s.marked q && not (eqb q v)) (h.inputs t))
-        (λ d. more q (λ e. d (sym holds_now ∙ e)));
-    before = λ p q. ap (λ row. has_at row p q) before ∙ h.before p q;
-    ready = ready;
+  readied : Readied (is_left N x) N.input s'
+  readied = record {
+    takers = λ p t. ap (λ row. has_at row p t) e.takers ∙ h.ready.takers p t;
+    ready = λ t. ap (λ set. has set t) e.ready ∙ h.ready.ready t ∙ ap (λ set. is_left N x t && has set (N.input t)) (sym e.marked);
   }
-    where
-      holds_now : at s.held (at s.inputs t) ≡ m place
-      holds_now = ap (at s.held) (h.inputs t) ∙ h.held place (law.inputs_inside t l)
+
+  -- the place still holds a block
+  pub shows_marked : 1 < m place → Shows N taken x s'
+  shows_marked two = record {
+    steps = e.steps ∙ h.steps;
+    left = λ u j. ap (λ row. at row u) e.left ∙ h.left u j;
+    inputs = λ u. ap (λ row. at row u) e.inputs ∙ h.inputs u;
+    yields = λ u p. ap (λ row. has_at row u p) e.yields ∙ h.yields u p;
+    twice = λ u p. ap (λ row. has_at row u p) e.twice ∙ h.twice u p;
+    marked = λ q. more_after_take N.places 0 m place some q (has s.marked q) (has s'.marked q) (h.marked q) (λ l. absurd (omega arith)) (λ _. ap (λ set. has set q) e.marked);
+    many = many_taken;
+    before = λ p q. ap (λ row. has_at row p q) e.before ∙ h.before p q;
+    ready = readied;
+  }
+
+  -- the place holds none any more
+  pub shows_unmarked : m place ≤ 1 → (s₂ : Schedule) → KeepsReady s' s₂ → ((q : ℕ) → has s₂.marked q ≡ (has s'.marked q && not (eqb q place))) →
+      Shows N taken x s₂
+  shows_unmarked one s₂ k marked = record {
+    steps = k.steps ∙ e.steps ∙ h.steps;
+    left = λ u j. ap (λ row. at row u) (k.left ∙ e.left) ∙ h.left u j;
+    inputs = λ u. ap (λ row. at row u) (k.inputs ∙ e.inputs) ∙ h.inputs u;
+    yields = λ u p. ap (λ row. has_at row u p) (k.yields ∙ e.yields) ∙ h.yields u p;
+    twice = λ u p. ap (λ row. has_at row u p) (k.twice ∙ e.twice) ∙ h.twice u p;
+    marked = λ q.
+        more_after_take N.places 0 m place some q (has s.marked q) (has s₂.marked q) (h.marked q)
+        (λ _. marked q ∙ ap (λ set. has set q && not (eqb q place)) e.marked) (λ l. absurd (omega arith));
+    many = λ q. ap (λ set. has set q) k.many ∙ many_taken q;
+    before = λ p q. ap (λ row. has_at row p q) (k.before ∙ e.before) ∙ h.before p q;
+    ready = k.ready (is_left N x) N.input readied;
+  }

@@ -1,5 +1,5 @@
 -- What a schedule shows: a net, a marking and the tally that is left.
-use Rattle.std.specs.Prelude.{◌≡◌, ℕ, ◌+◌, ◌^◌, ◌<◌, Bool, ◌&&◌, nat_lt}
+use Rattle.std.specs.Prelude.{◌≡◌, ℕ, ◌<◌, Bool, ◌&&◌, nat_lt}
 use Rattle.theory.specs.Nets.{NetMeaning, NetLaw}
 use Rattle.theory.specs.Rows.{at}
 use Rattle.theory.specs.Firing.{Marking}
@@ -15,15 +15,16 @@ use Rattle.schedules.specs.Tables.{Readied}
 abbrev pub is_left : NetMeaning → Tally → ℕ → Bool
 is_left N x t = nat_lt t N.steps && nat_lt 0 (x t)
 
--- the schedule shows the net, the marking and the tally; no `impl Model`, as the rows tell a net, a marking and
--- a tally only below the number of places and of steps
+-- the schedule shows the net, the marking and the tally; no `impl Model`, as the tables tell of a marking only where blocks
+-- lie and where more than one, and of a net and a tally only below the number of steps
 pub record Shows (N : NetMeaning) (m : Marking) (x : Tally) (s : Schedule) : Type 0 where
   pub steps : s.steps ≡ N.steps
-  pub held : (p : ℕ) → p < N.places → at s.held p ≡ m p
   pub left : (t : ℕ) → t < N.steps → at s.left t ≡ x t
   pub inputs : (t : ℕ) → at s.inputs t ≡ N.input t
   pub yields : (t p : ℕ) → has_at s.yields t p ≡ nat_lt 0 (N.yields t p)
+  pub twice : (t p : ℕ) → has_at s.twice t p ≡ nat_lt 1 (N.yields t p)
   pub marked : (p : ℕ) → has s.marked p ≡ (nat_lt p N.places && nat_lt 0 (m p))
+  pub many : (p : ℕ) → has s.many p ≡ (nat_lt p N.places && nat_lt 1 (m p))
   pub before : (p q : ℕ) → has_at s.origins.before p q ≡ leads_to N x q p
   pub ready : Readied (is_left N x) N.input s
 
@@ -40,7 +41,3 @@ pub record Ready (N : NetMeaning) (m : Marking) (x : Tally) (t : ℕ) : Type 0 w
   pub a_step : t < N.steps
   pub left : 0 < x t
   pub holds : 0 < m (N.input t)
-
--- the yields of t fit beside the blocks that are there
-abbrev pub Room : NetMeaning → Marking → ℕ → Type 0
-Room N m t = (p : ℕ) → p < N.places → m p + N.yields t p < 2 ^ 32

@@ -1,5 +1,5 @@
 //! A schedule from a net, the counts of a board and a tally.
-ghost use Rattle.std.specs.Prelude.{◌≡◌, ℕ, ◌<◌, nat_lt, slice_index_or};
+ghost use Rattle.std.specs.Prelude.{◌≡◌, ℕ, ◌<◌, ◌≤◌, ◌&&◌, nat_lt, slice_index_or};
 ghost use Rattle.place_sets.specs.Flags.{has};
 ghost use Rattle.reached.specs.Led.{has_at};
 ghost use Rattle.schedules.specs.Shows.{Shows};
@@ -27,6 +27,46 @@ fn all_yield_places<N: Net>(net: &N) -> [PlaceSet; MOST_STEPS]
     )
 }
 
+/// The places at which a step puts down more than one block.
+fn twice_at<N: Net>(net: &N, step: u16) -> PlaceSet
+    ensures { (p : ℕ) → has result p ≡ nat_lt 1 ((N.meaning net.now).net.yields step p) }
+{
+    let places = net.yield_places(step);
+    let mut twice = PlaceSet::empty();
+    let mut done = PlaceSet::empty();
+    while let Some(place) = places.minus(done).first() {
+        if net.yield_at(step, place) > 1 {
+            twice = twice.with(place);
+        }
+        done = done.with(place);
+    }
+    twice
+}
+
+/// The places at which each step puts down more than one block.
+fn all_twice<N: Net>(net: &N) -> [PlaceSet; MOST_STEPS]
+    ensures { (t p : ℕ) → has_at result t p ≡ nat_lt 1 ((N.meaning net.now).net.yields t p) }
+{
+    // an index of the array, so the cast keeps it
+    array::from_fn(
+        |step| -> PlaceSet
+            requires { step < 128 }
+            ensures { (p : ℕ) → has result p ≡ nat_lt 1 ((N.meaning net.entry.now).net.yields step p) }
+        { twice_at(net, step as u16) },
+    )
+}
+
+/// The places that hold more than one block.
+fn many_in(counts: &[u32], places: u8) -> PlaceSet
+    requires { places ≤ 64 }
+    ensures { (p : ℕ) → has result p ≡ (nat_lt p places && nat_lt 1 (at counts.now p)) }
+{
+    PlaceSet::passing(
+        places,
+        |place| counts.get(usize::from(place)).copied().unwrap_or(0) > 1,
+    )
+}
+
 /// The front of a row, filled up with 0.
 fn front<T: Copy, const N: usize>(row: &[T], past: T) -> [T; N]
     ensures { (i : ℕ) → i < N → slice_index_or result i past ≡ slice_index_or row.now i past }
@@ -43,11 +83,12 @@ impl Schedule {
         let takers = takers_of(net, tally);
         Schedule {
             steps: net.steps(),
-            held: front(counts, 0),
             left: front(tally, 0),
             inputs: inputs_of(net),
             yields: all_yield_places(net),
+            twice: all_twice(net),
             marked,
+            many: many_in(counts, net.places()),
             ready: takers_at(marked, &takers),
             takers,
             origins: Origins::new(&leads_of(net, tally)),

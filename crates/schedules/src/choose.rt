@@ -45,15 +45,15 @@ impl Schedule {
         ensures { result ≡ keeps_in self.now step }
     {
         let place = self.input(step);
-        self.blocks_at(place) > 1 || self.yields(step).has(place)
+        self.many.has(place) || self.yields(step).has(place)
     }
 
     /// Whether no step that is left after this one takes at its input place.
     fn takes_last(&self, step: u16) -> bool
         ensures { TakesLast self.now step result }
     {
-        let others = self.takers[usize::from(self.input(step))].without(step);
-        self.times_left(step) == 1 && others.first().is_none()
+        self.times_left(step) == 1
+            && self.takers[usize::from(self.input(step))].without(step).first().is_none()
     }
 
     /// Whether the input place is reached from the other places that hold a block after the step.

@@ -1,57 +1,63 @@
 //! One step fired: its blocks moved, and one less of it left.
-ghost use Rattle.std.specs.Prelude.{◌≡◌, ℕ, ◌+◌, ◌-◌, ◌^◌, ◌<◌, Bool, not, ◌&&◌, ◌||◌, ◌==◌, min, if◌then◌else◌};
+ghost use Rattle.std.specs.Prelude.{◌≡◌, ℕ, ◌+◌, ◌-◌, ◌<◌, ◌≤◌, not, ◌&&◌, ◌||◌, ◌==◌, nat_lt};
 ghost use Rattle.place_sets.specs.Flags.{has};
-ghost use Rattle.schedules.specs.Shows.{Shows, Ready, Room};
+ghost use Rattle.reached.specs.Led.{has_at};
+ghost use Rattle.schedules.specs.Shows.{Shows, WhereShown, Ready};
 ghost use Rattle.schedules.specs.Tables.{KeepsReady};
-ghost use Rattle.theory.specs.Firing.{Marking, fired};
+ghost use Rattle.theory.specs.Firing.{one_at, fired};
 ghost use Rattle.theory.specs.Orders.{less};
 ghost use Rattle.theory.specs.Rows.{at};
-ghost use Rattle.theory.specs.Tallies.{Tally};
 
 use crate::schedule::Schedule;
 use crate::takers::takers_at;
-use boards::board::PLACES;
-use nets::net::Net;
 use place_sets::PlaceSet;
 
-/// Adds the yields of a step to the counts of the given places.
-fn add_yields<N: Net>(held: &mut [u32; PLACES], net: &N, step: u16, places: PlaceSet)
-    ensures { (p : ℕ) → p < 64 → at held.new p ≡ (if has places p then min (at held.old p + (N.meaning net.now).net.yields step p) (2 ^ 32 - 1) else at held.old p) }
-{
-    // A walk over a set: an iterator for it would be longer than the loop and no plainer.
-    let mut done = PlaceSet::empty();
-    while let Some(place) = places.minus(done).first() {
-        let yielded = u32::from(net.yield_at(step, place));
-        held[usize::from(place)] = held[usize::from(place)].saturating_add(yielded);
-        done = done.with(place);
-    }
-}
-
 impl Schedule {
-    /// Fires a step that is left and finds a block; any other leaves the schedule as it is.
-    pub fn fire<N: Net>(&mut self, net: &N, step: u16)
-        ensures fired { let M = (N.meaning net.now).net in (m : Marking) (x : Tally) → Shows M m x self.old → Ready M m x step → Room M m step → Shows M (fired M m step) (less x step) self.new }
-        ensures same { let M = (N.meaning net.now).net in (m : Marking) (x : Tally) → Shows M m x self.old → (Ready M m x step → ⊥) → self.new ≡ self.old }
+    /// Fires a step that is left and finds a block, where its input place holds so many; any other leaves the
+    /// schedule as it is.
+    pub fn fire(&mut self, step: u16, count: u32)
+        ensures fired { WhereShown self.old (λ N m x. Ready N m x step → count ≡ m (N.input step) → Shows N (fired N m step) (less x step) self.new) }
+        ensures same { WhereShown self.old (λ N m x. (Ready N m x step → ⊥) → self.new ≡ self.old) }
     {
         if step < self.steps && self.ready.has(step) {
             self.count_down(step);
-            self.move_blocks(net, step);
+            let place = self.input(step);
+            self.take_at(place, count);
+            self.put_yields(step);
         }
     }
 
-    /// Takes a block at the input place of a step and puts its yields down.
-    fn move_blocks<N: Net>(&mut self, net: &N, step: u16)
-        ensures { let M = (N.meaning net.now).net in (m : Marking) (x : Tally) → Shows M m x self.old → step < M.steps → 0 < m (M.input step) → Room M m step → Shows M (fired M m step) x self.new }
+    /// Takes a block at a place that holds so many.
+    fn take_at(&mut self, place: u8, count: u32)
+        requires { place < 64 }
+        ensures { WhereShown self.old (λ N m x. count ≡ m place → 0 < count → Shows N (λ p. m p - one_at place p) x self.new) }
     {
-        let place = self.input(step);
-        let yields = self.yields(step);
-        let count = self.blocks_at(place);
-        self.held[usize::from(place)] = count.saturating_sub(1);
-        add_yields(&mut self.held, net, step, yields);
-        if count == 1 {
+        self.many = self.many_after(place, count);
+        if count <= 1 {
             self.unmark(place);
         }
-        self.mark(yields);
+    }
+
+    /// The places that hold more than one block, after one is taken at a place that holds so many.
+    fn many_after(&self, place: u8, count: u32) -> PlaceSet
+        ensures few { count ≤ 2 → (p : ℕ) → has result p ≡ (has self.now.many p && not (p == place)) }
+        ensures more { 2 < count → (p : ℕ) → has result p ≡ has self.now.many p }
+    {
+        if count <= 2 {
+            self.many.without(place)
+        } else {
+            self.many
+        }
+    }
+
+    /// Puts the yields of a step down.
+    fn put_yields(&mut self, step: u16)
+        ensures { WhereShown self.old (λ N m x. Shows N (λ p. m p + N.yields step p) x self.new) }
+    {
+        let places = self.yields(step);
+        let fresh = places.minus(self.marked);
+        self.many = self.many.union(places.minus(fresh)).union(self.twice(step));
+        self.mark(places, fresh);
     }
 
     /// The place holds no block any more.
@@ -64,12 +70,12 @@ impl Schedule {
         self.ready = self.ready.minus(self.takers[usize::from(place)]);
     }
 
-    /// The places hold a block.
-    fn mark(&mut self, places: PlaceSet)
+    /// The places hold a block, which the fresh ones of them did not.
+    fn mark(&mut self, places: PlaceSet, fresh: PlaceSet)
+        requires { (p : ℕ) → has fresh p ≡ (has places p && not (has self.old.marked p)) }
         ensures ready { KeepsReady self.old self.new }
         ensures marked { (p : ℕ) → has self.new.marked p ≡ (has self.old.marked p || has places p) }
     {
-        let fresh = places.minus(self.marked);
         self.marked = self.marked.union(places);
         self.ready = self.ready.union(takers_at(fresh, &self.takers));
     }

@@ -8,20 +8,23 @@ use place_sets::PlaceSet;
 use reached::origins::Origins;
 use step_sets::StepSet;
 
-/// The blocks (tokens) at each place, how often each step is still to be done, and where blocks
-/// can come from there.
+/// Where blocks (tokens) lie, how often each step is still to be done, and where blocks can come from there. It knows of
+/// each place whether it holds a block and whether it holds more than one; how many, only the board knows.
 // One row for each kind of number: clauses say of each what it holds, where a row of structs would be named
 // with a field at each place besides.
 #[derive(Drop)]
 pub struct Schedule {
     pub(crate) steps: u16,
-    pub(crate) held: [u32; PLACES],
     pub(crate) left: [u16; MOST_STEPS],
     pub(crate) inputs: [u8; MOST_STEPS],
     /// Where each step yields.
     pub(crate) yields: [PlaceSet; MOST_STEPS],
+    /// Where each step puts down more than one block.
+    pub(crate) twice: [PlaceSet; MOST_STEPS],
     /// The places that hold a block.
     pub(crate) marked: PlaceSet,
+    /// The places that hold more than one block.
+    pub(crate) many: PlaceSet,
     /// The steps that are left and find a block.
     pub(crate) ready: StepSet,
     /// For each place, the steps that are left and take there.
@@ -34,6 +37,7 @@ pub struct Schedule {
 
 impl Schedule {
     ghost use Rattle.place_sets.specs.Flags.{has};
+    ghost use Rattle.reached.specs.Led.{has_at};
     ghost use Rattle.schedules.specs.Shows.{Shows};
     ghost use Rattle.schedules.specs.Tables.{input_in, yields_in};
     ghost use Rattle.theory.specs.Firing.{Marking};
@@ -67,10 +71,13 @@ impl Schedule {
         self.left.get(usize::from(step)).copied().unwrap_or(0)
     }
 
-    /// How many blocks lie at a place; 0 above place 63.
-    pub(crate) fn blocks_at(&self, place: u8) -> u32
-        ensures { result ≡ at self.now.held place }
+    /// Where a step puts down more than one block; nowhere past the last step.
+    pub(crate) fn twice(&self, step: u16) -> PlaceSet
+        ensures { (p : ℕ) → has result p ≡ has_at self.now.twice step p }
     {
-        self.held.get(usize::from(place)).copied().unwrap_or(0)
+        self.twice
+            .get(usize::from(step))
+            .copied()
+            .unwrap_or(PlaceSet::empty())
     }
 }

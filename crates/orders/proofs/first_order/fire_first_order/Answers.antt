@@ -36,9 +36,11 @@ loop-preserved g c =
           let s' = w.fire.new.self in
           let o' = w.add.new.self in
           let found : (x : Tally) → Shows N.net (H b) x s → NoPlaceCutOff N.net (H b) x → Some t ≡ least (safe N.net (H b) x) N.net.steps = λ x shows none. sym w.in-Some.is ∙ c.next_step.ensures.answer N.net (H b) x N.law shows none in
-          let more = turn N.net N.law (H b₀) x₀ (R b₀) lent k s (H b) (R b) o.memory.now o.len going t found room (g.met.B.Board.bounded b)
+          let more = turn N.net N.law (H b₀) x₀ (R b₀) lent k s (H b) (R b) o.memory.now o.len going t found room
           (H b') (R b') w.move_ready.ensures
-          s' (λ x shows ready fits. w.fire.ensures.fired (H b) x (shows_kept N.net (H b) x s c.next_step.new.self c.next_step.ensures.kept shows) ready fits)
+          s' (λ x shows ready.
+          let kept = shows_kept N.net (H b) x s c.next_step.new.self c.next_step.ensures.kept shows in
+          w.fire.ensures.fired N.net (H b) x N.law kept ready (w.count-count.ensures.answer ∙ ap (H b) (w.input.ensures.shown N.net (H b) x kept)))
           w.add.result o'.memory.now o'.len w.add.ensures.adds in
           let P : g.row.B.Denot → Type 0 = λ z. Going N.net (H b₀) x₀ (R b₀) lent (k + 1) s' (H z) (R z) o'.memory.now o'.len in
           let Q : Schedule → Type 0 = λ z. Going N.net (H b₀) x₀ (R b₀) lent (k + 1) z (H c.match-next_step.board) (R c.match-next_step.board) o'.memory.now o'.len in

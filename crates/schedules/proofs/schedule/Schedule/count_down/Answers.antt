@@ -16,7 +16,7 @@ returns-then-left-eq1 c N m x law h ready =
     ∙ ap (set s.left t) (c.saturating_sub.ensures ∙ ap (λ (v : ℕ). v - 1) c.times_left-left.ensures) in
     let once : x t ≡ 1 = sym (h.left t l) ∙ (sym c.times_left-left.ensures ∙ c.if-left-eq1.true) in
     shows_last_gone N law m x s h t l k _
-    (record { steps = refl; held = refl; left = row; inputs = refl; yields = refl; marked = refl; ready = refl; takers = refl; before = refl })
+    (record { steps = refl; left = row; inputs = refl; yields = refl; twice = refl; marked = refl; many = refl; ready = refl; takers = refl; before = refl })
     once c.finish.new.self c.finish.ensures
 
 pub returns-else-left-eq1 : goal.returns-else-left-eq1
@@ -34,4 +34,4 @@ returns-else-left-eq1 c N m x law h ready =
       | inr n ↦ omega arith
     ] in
     shows_more_left N law m x s h t l k _
-    (record { steps = refl; held = refl; left = row; inputs = refl; yields = refl; marked = refl; ready = refl; takers = refl; before = refl }) two
+    (record { steps = refl; left = row; inputs = refl; yields = refl; twice = refl; marked = refl; many = refl; ready = refl; takers = refl; before = refl }) two

@@ -23,11 +23,12 @@ returns c =
     ∙ ap (λ (v : ℕ). has v u && not (eqb u t)) (get_or_default_zero s.takers c.from.result c.index-self-from.result l ∙ ap (at s.takers) i) in
     record {
       steps = refl;
-      held = refl;
       left = refl;
       inputs = refl;
       yields = refl;
+      twice = refl;
       marked = refl;
+      many = refl;
       takers = λ p u.
           reduced s.takers c.from-2.result c.without-others.result (λ v. eqb v t) l2
           (λ v. others v ∙ ap (λ (q : ℕ). has_at s.takers q v && not (eqb v t)) (sym j)) p u

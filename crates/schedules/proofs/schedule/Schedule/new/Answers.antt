@@ -12,11 +12,12 @@ returns g c =
     let x : ℕ → ℕ = at c.args.tally.now in
     record {
       steps = c.steps.ensures;
-      held = λ p l. c.front.ensures p (omega (arith, L.law.few_places));
-      left = λ t l. c.front-2.ensures t (omega (arith, L.law.few_steps));
+      left = λ t l. c.front.ensures t (omega (arith, L.law.few_steps));
       inputs = c.inputs_of.ensures.answer;
       yields = c.all_yield_places.ensures;
       marked = λ p. c.marked_in-marked.ensures p ∙ ap (λ (v : ℕ). ltb p v && ltb 0 (at c.args.counts.now p)) c.places.ensures;
+      twice = c.all_twice.ensures;
+      many = λ p. c.many_in.ensures p ∙ ap (λ (v : ℕ). ltb p v && ltb 1 (at c.args.counts.now p)) c.places-2.ensures;
       before = λ p q. elim (cases_lt p 64) [
         | inl l ↦ c.new.ensures.before p q l ∙ c.leads_of.ensures q p
         | inr k ↦ c.new.ensures.past p q k ∙ sym (no_leads L.net L.law x q p (omega (arith, L.law.few_places)))
