@@ -1,7 +1,6 @@
 use Rattle.std.proofs.Common.{[], replicate, sym, ◌∙◌, arith}
 use Rattle.theory.specs.Nets.{LawfulNet}
-use Rattle.nets.proofs.FilledTo.{filled_none, filled_more, filled_all}
-use Rattle.nets.proofs.Walks.{zeros}
+use Rattle.nets.proofs.FilledTo.{zeros, filled_none, filled_more, filled_all}
 use Rattle.tables.proofs.reads.read_yields.Goals as goal
 
 pub loop-step-init : goal.loop-step-init
