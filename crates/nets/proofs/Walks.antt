@@ -1,10 +1,11 @@
--- One walk along a chain of arcs, which places rise along: what it has written or gathered, and what is to come.
+-- One walk along a chain, whose arcs are at rising places: what is written or gathered so far, and what is to come.
 use Rattle.std.proofs.Common.{◌≡◌, ℕ, ◌-◌, ◌<◌, ◌≤◌, Bool, true, false, cond, ◌&&◌, ◌||◌, eqb, ltb, List, is_some, length, replicate, set, sym, refl, ap, ◌∙◌, inl, inr, arith}
-use Rattle.std.proofs.lemmas.Bool.{cases_eq, cases_lt, cond-true, cond-false, eq-eqb, ne_eqb, lt-ltb}
+use Rattle.std.proofs.lemmas.Bool.{cases_eq, cond-true, cond-false, eq-eqb, ne_eqb, lt-ltb}
 use Rattle.std.proofs.lemmas.Grind.{get_or-set_at}
-use Rattle.std.proofs.lemmas.List.{get_or-replicate, get_or-set_other, get_or_past, length-replicate, length-set}
+use Rattle.std.proofs.lemmas.List.{get_or-set_other, length-replicate, length-set}
 use Rattle.theory.specs.Rows.{at}
 use Rattle.place_sets.specs.Flags.{has}
+use Rattle.nets.proofs.FilledTo.{zeros}
 use Rattle.formats.specs.Chained.{chained_arcs, arc_place, arc_weight, arc_next, chain_yield, chained_refusal}
 use Rattle.formats.proofs.Chains.{chain_here, chain_next}
 use Rattle.formats.proofs.ChainedLaw.{ArcFits, each_arc_fits, chained_lawful}
@@ -38,12 +39,6 @@ pub record Written (file : List ℕ) (first n a : ℕ) (row : List ℕ) : Type 0
   pub inside : a ≤ chained_arcs file
   pub ahead : (p : ℕ) → 0 < a → arc_place file a ≤ p → at row p ≡ 0
   pub yields : (p : ℕ) → chain_yield file (chained_arcs file) first p ≡ cond (eqb (at row p) 0) (chain_yield file n a p) (at row p)
-
-pub zeros : (n p : ℕ) → at (replicate n 0) p ≡ 0
-zeros n p = elim (cases_lt p n) [
-  | inl l ↦ get_or-replicate n p 0 0 l
-  | inr k ↦ get_or_past (replicate n 0) p 0 (omega (arith, length-replicate {A = ℕ}, k))
-]
 
 not_written : (v rest : ℕ) → v ≡ 0 → cond (eqb v 0) rest v ≡ rest
 not_written v rest e = cond-true (eqb v 0) rest v (eq-eqb v 0 e)

@@ -1,8 +1,9 @@
 //! The grid net: a table of yields, a row for each step.
-ghost use Rattle.std.specs.Prelude.{◌≡◌, ℕ, ◌≤◌, Some, None, MatchResult, false, is_some, is_ok, if◌then◌else◌, slice_index};
+ghost use Rattle.std.specs.Prelude.{◌≡◌, ℕ, ◌≤◌, Some, None, MatchResult, false, is_some, is_ok, nat_lt, if◌then◌else◌, slice_index};
 ghost use Rattle.formats.proofs.GridLaw.{grid_lawful};
 ghost use Rattle.refusals.specs.Answered.{answered};
-ghost use Rattle.formats.specs.Grid.{grid_input_outside, grid_row, grid_yield, grid_yields_nothing, grid_head_refusal, grid_rows_refusal, grid_refusal, grid_net};
+ghost use Rattle.formats.specs.Grid.{grid_places, grid_input_outside, grid_row, grid_yield, grid_yields_nothing, grid_head_refusal, grid_rows_refusal, grid_refusal, grid_net};
+ghost use Rattle.theory.specs.Rows.{at};
 
 use crate::bytes::byte_at;
 use crate::net::{MOST_PLACES, MOST_STEPS, Net};
@@ -33,6 +34,18 @@ fn yield_of(file: &[u8], step: u16, place: u8) -> u8
     ensures { result ≡ grid_yield file.now step place }
 {
     byte_at(file, row_of(file, step) + 1 + usize::from(place))
+}
+
+/// The yields in the row of a step; 0 past the last place.
+fn yields_of(file: &[u8], step: u16) -> [u8; MOST_PLACES]
+    requires { grid_places file.now ≤ 64 }
+    ensures { (p : ℕ) → at result p ≡ (if nat_lt p (grid_places file.now) then grid_yield file.now step p else 0) }
+{
+    let mut yields = [0; MOST_PLACES];
+    for place in 0..byte_at(file, 0) {
+        yields[usize::from(place)] = yield_of(file, step, place);
+    }
+    yields
 }
 
 /// Whether the input of a step is no place of the net.
@@ -140,6 +153,15 @@ impl Net for GridNet<'_> {
             yield_of(self.file, step, place)
         } else {
             0
+        }
+    }
+
+    // The row of the step as it lies in the file, where the trait's own would look for each place anew.
+    fn yields(&self, step: u16) -> [u8; MOST_PLACES] {
+        if step < self.steps() {
+            yields_of(self.file, step)
+        } else {
+            [0; MOST_PLACES]
         }
     }
 }

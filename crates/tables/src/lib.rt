@@ -2,6 +2,5 @@
 #![tactic(auto)]
 
 pub mod net_table;
-mod reads;
 #[cfg(test)]
 mod tests;

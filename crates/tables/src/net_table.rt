@@ -5,7 +5,6 @@ ghost use Rattle.table_law.proofs.TableLaw.{table_lawful};
 ghost use Rattle.table_law.specs.Tables.{cell, yields_somewhere, table_net};
 ghost use Rattle.theory.specs.Rows.{at};
 
-use crate::reads::{read_places, read_yields};
 use nets::inputs::inputs_of;
 use nets::net::{MOST_PLACES, MOST_STEPS, Net};
 use place_sets::PlaceSet;
@@ -38,12 +37,20 @@ impl NetTable {
     pub fn read<N: Net>(net: &N) -> NetTable
         ensures { table_net result.places result.steps result.inputs result.yields ≡ (N.meaning net.now).net }
     {
+        // Zeros and empty sets first, so that a net of few steps is asked few times. The rows are filled here, since
+        // a function that gave them back would copy them once more.
+        let mut yields = [[0; MOST_PLACES]; MOST_STEPS];
+        let mut yield_places = [PlaceSet::empty(); MOST_STEPS];
+        for step in 0..net.steps() {
+            yields[usize::from(step)] = net.yields(step);
+            yield_places[usize::from(step)] = net.yield_places(step);
+        }
         NetTable {
             places: net.places(),
             steps: net.steps(),
             inputs: inputs_of(net),
-            yields: read_yields(net),
-            yield_places: read_places(net),
+            yields,
+            yield_places,
         }
     }
 }

@@ -1,6 +1,6 @@
 use Rattle.std.proofs.Common.{sym, ◌∙◌, arith}
 use Rattle.formats.proofs.ChainedLaw.{first_arc_inside, chained_lawful}
-use Rattle.nets.proofs.Walks.{zeros}
+use Rattle.nets.proofs.FilledTo.{zeros}
 use Rattle.nets.proofs.chained.ChainedNetNet.yields.Goals as goal
 
 pub chain_yields-requires-clause-inside : goal.chain_yields-requires-clause-inside

@@ -1,5 +1,5 @@
 use Rattle.std.proofs.Common.{sym, ◌∙◌}
-use Rattle.nets.proofs.Walks.{zeros}
+use Rattle.nets.proofs.FilledTo.{zeros}
 use Rattle.table_law.proofs.Conditions.{outside_steps}
 use Rattle.table_law.specs.Tables.{cell}
 use Rattle.tables.proofs.net_table.NetTableNet.yields.Goals as goal
