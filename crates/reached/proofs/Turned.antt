@@ -1,7 +1,7 @@
 -- What leads to a place is found backward from the place.
-use Rattle.std.proofs.Common.{◌≡◌, ℕ, Bool, true, not, eqb, Decides, refl, sym, ap, ◌∙◌, inl, inr}
-use Rattle.std.proofs.lemmas.Bool.{cases_Bool, both_ways, eqb-true, eq-eqb}
-use Rattle.reached.specs.Led.{Led}
+use Rattle.std.proofs.Common.{◌≡◌, ℕ, Bool, true, not, ◌||◌, eqb, Decides, refl, sym, ap, ◌∙◌, inl, inr}
+use Rattle.std.proofs.lemmas.Bool.{cases_eq, or_cases, or_left, or_right, cases_Bool, both_ways, eqb-true, eq-eqb}
+use Rattle.reached.specs.Led.{Led, OtherOrigin}
 use Rattle.reached.proofs.Searching.{led_first, led_on}
 
 module _ (leads back : ℕ → ℕ → Bool) (same : (p q : ℕ) → back p q ≡ leads q p) (first : ℕ → Bool) (p : ℕ)
@@ -39,3 +39,17 @@ module _ (leads back : ℕ → ℕ → Bool) (same : (p q : ℕ) → back p q �
         | inl a ↦ absurd (both_ways (not (above q)) (ap not (above_on r q a e)) n)
         | inr a ↦ ap not a
       ]))
+
+-- the other origins of a place, with itself
+pub with_itself : (back : ℕ → ℕ → Bool) (p : ℕ) (others : ℕ → Bool) → ((q : ℕ) → Decides (others q) (OtherOrigin back p q)) →
+    (q : ℕ) → Decides (eqb q p || others q) (Led back (λ z. eqb z p) q)
+with_itself back p others found q = (
+  λ e. elim (or_cases (eqb q p) (others q) e) [
+    | inl h ↦ led_first back (λ z. eqb z p) q h
+    | inr h ↦ ((found q).0 h).0
+  ],
+  λ l. elim (cases_eq q p) [
+    | inl s ↦ or_left (eqb q p) (others q) (eq-eqb q p s)
+    | inr d ↦ or_right (eqb q p) (others q) ((found q).1 (l, d))
+  ],
+)

@@ -1,5 +1,5 @@
 -- The places that are led to from some places.
-use Rattle.std.specs.Prelude.{◌≡◌, ℕ, Bool, true, List}
+use Rattle.std.specs.Prelude.{◌≡◌, ℕ, Bool, true, List, ◌==◌}
 use Rattle.place_sets.specs.Flags.{has}
 use Rattle.theory.specs.Rows.{at}
 
@@ -12,3 +12,7 @@ abbrev pub Led : (ℕ → ℕ → Bool) → (ℕ → Bool) → ℕ → Type 0
 Led leads first p =
     (set : ℕ → Bool) → ((q : ℕ) → first q ≡ true → set q ≡ true) →
     ((q r : ℕ) → set q ≡ true → leads q r ≡ true → set r ≡ true) → set p ≡ true
+
+-- q is another place from which p is reached, where `before` has for each place from where it is reached at once
+abbrev pub OtherOrigin : (ℕ → ℕ → Bool) → ℕ → ℕ → Type 0
+OtherOrigin before p q = Led before (λ z. z == p) q × (q ≡ p → ⊥)

@@ -1,7 +1,7 @@
 //! Where each place is reached from.
 ghost use Rattle.std.specs.Prelude.{◌≡◌, ℕ, ◌<◌, ◌≤◌, true, false, not, ◌&&◌, ◌||◌, ◌==◌, Decides, length};
 ghost use Rattle.place_sets.specs.Flags.{has};
-ghost use Rattle.reached.specs.Led.{Led, has_at};
+ghost use Rattle.reached.specs.Led.{OtherOrigin, has_at};
 
 use crate::search::reached_from;
 use nets::net::MOST_PLACES;
@@ -13,10 +13,10 @@ use place_sets::PlaceSet;
 pub struct Origins {
     /// For each place, from where it is reached at once.
     pub(crate) before: [PlaceSet; MOST_PLACES],
-    /// For each place in `known`, all places from which it is reached, and itself.
+    /// For each place in `known`, all other places from which it is reached.
     above: [PlaceSet; MOST_PLACES],
     known: PlaceSet,
-    ghost found: { (p : ℕ) → p < 64 → has known p ≡ true → (q : ℕ) → Decides (has_at above p q) (Led (has_at before) (λ z. z == p) q) },
+    ghost found: { (p : ℕ) → p < 64 → has known p ≡ true → (q : ℕ) → Decides (has_at above p q) (OtherOrigin (has_at before) p q) },
 }
 
 impl Origins {
@@ -32,15 +32,16 @@ impl Origins {
         }
     }
 
-    /// The place itself, and all places from which it is reached.
-    pub fn of(&mut self, place: u8) -> PlaceSet
+    /// The other places from which the place is reached.
+    pub fn others(&mut self, place: u8) -> PlaceSet
         requires { place < 64 }
         ensures same { self.new.before ≡ self.old.before }
-        ensures answer { (q : ℕ) → Decides (has result q) (Led (has_at self.old.before) (λ z. z == place) q) }
+        ensures answer { (q : ℕ) → Decides (has result q) (OtherOrigin (has_at self.old.before) place q) }
     {
         if !self.known.has(place) {
             let first = PlaceSet::empty().with(place);
-            self.above[usize::from(place)] = reached_from(first, &self.before);
+            let all = reached_from(first, &self.before);
+            self.above[usize::from(place)] = all.without(place);
             self.known = self.known.with(place);
         }
         self.above[usize::from(place)]

@@ -1,9 +1,9 @@
 //! The next step of the first order: the least that is safe.
-ghost use Rattle.std.specs.Prelude.{◌≡◌, ℕ, true, Decides};
+ghost use Rattle.std.specs.Prelude.{◌≡◌, ℕ, true, false, Decides};
 ghost use Rattle.place_sets.specs.Flags.{has};
 ghost use Rattle.reached.specs.Led.{Led, has_at};
 ghost use Rattle.schedules.specs.Shows.{WhereShown, TellsSafe};
-ghost use Rattle.schedules.specs.Tables.{Kept, TakesLast, keeps_in, marked_after};
+ghost use Rattle.schedules.specs.Tables.{Kept, TakesLast, keeps_in, marked_after, yields_in};
 ghost use Rattle.theory.specs.Rows.{at};
 ghost use Rattle.theory.specs.Tallies.{NoPlaceCutOff};
 ghost use Rattle.theory.specs.Tests.{least, safe};
@@ -56,13 +56,14 @@ impl Schedule {
             && self.takers[usize::from(self.input(step))].without(step).first().is_none()
     }
 
-    /// Whether the input place is reached from the other places that hold a block after the step.
+    /// Whether the input place, where the step does not yield, is reached from another place that holds a block after it.
     fn comes_back(&mut self, step: u16) -> bool
+        requires { yields_in self.old step (at self.old.inputs step) ≡ false }
         ensures answer { Decides result (Led (λ q p. has_at self.old.origins.before p q) (marked_after self.old step) (at self.old.inputs step)) }
         ensures kept { Kept self.old self.new }
     {
         let place = self.input(step);
-        let first = self.marked.without(place).union(self.yields(step));
-        first.meets(self.origins.of(place))
+        let held = self.marked.union(self.yields(step));
+        held.meets(self.origins.others(place))
     }
 }

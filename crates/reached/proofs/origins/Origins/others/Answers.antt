@@ -1,11 +1,11 @@
-use Rattle.std.proofs.Common.{◌≡◌, ℕ, true, List, Decides, eqb, ltb, refl, sym, ap, ◌∙◌, subst, arith}
+use Rattle.std.proofs.Common.{◌≡◌, ℕ, true, List, ltb, eqb, Decides, refl, sym, ap, ◌∙◌, subst, arith}
 use Rattle.std.proofs.lemmas.Bool.{or_right, and_from, eq-eqb, lt-ltb}
 use Rattle.std.proofs.lemmas.Grind.{get_or_default_zero}
 use Rattle.place_sets.specs.Flags.{has}
 use Rattle.theory.specs.Rows.{at}
-use Rattle.reached.specs.Led.{Led, has_at}
-use Rattle.reached.proofs.origins.Origins.of.Goals as goal
-use Rattle.reached.proofs.origins.Origins.of.Goals.{then-not-has, else-not-has}
+use Rattle.reached.specs.Led.{OtherOrigin, has_at}
+use Rattle.reached.proofs.origins.Origins.others.Goals as goal
+use Rattle.reached.proofs.origins.Origins.others.Goals.{then-not-has, else-not-has}
 
 pub returns-clause-answer : goal.returns-clause-answer
 returns-clause-answer c q =
@@ -23,5 +23,5 @@ returns-clause-answer c q =
       | else-not-has w ↦ ap (λ z. has z.known place) w.self-is ∙ sym w.if-not-has.ensures
     ] in
     let there = get_or_default_zero s'.above c.from-2.result c.index-self-from-2.result (omega (arith, c.requires, c.from-2.ensures)) ∙ ap (at s'.above) c.from-2.ensures in
-    let D : ℕ → List ℕ → Type 0 = λ set row. Decides (has set q) (Led (has_at row) (λ z. eqb z place) q) in
+    let D : ℕ → List ℕ → Type 0 = λ set row. Decides (has set q) (OtherOrigin (has_at row) place q) in
     subst (D _) before (subst (λ v. D v s'.before) (sym there) (s'.found place c.requires known q))
