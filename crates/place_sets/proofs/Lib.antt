@@ -1,1 +1,2 @@
 pub mod FlagLaws
+pub mod LeastFlag

@@ -64,6 +64,18 @@ impl StepSet {
         self.minus(StepSet::empty().with(step))
     }
 
+    /// The set without its least step.
+    pub fn without_first(self) -> StepSet
+        ensures answer { (k : ℕ) → IsFirst 128 self k → (t : ℕ) → has result t ≡ (has self t && not (t == k)) }
+        ensures none { Empty self → Empty result }
+        ensures shrinks { 0 < self → result < self }
+    {
+        // the word less 1 differs from it in its lowest 1 and the zeros below
+        StepSet {
+            word: self.word & self.word.wrapping_sub(1),
+        }
+    }
+
     /// The steps of either set.
     pub fn union(self, other: StepSet) -> StepSet
         ensures { (t : ℕ) → has result t ≡ (has self t || has other t) }
