@@ -24,6 +24,12 @@ pub front_short : (row : List ℕ) (i : ℕ) → length (numbers (take i row)) �
 front_short row i =
     omega (arith, ap (λ z. length (numbers z)) (take-append-drop i row), ap length (numbers_both (take i row) (drop i row)), length-append (numbers (take i row)) (numbers (drop i row)))
 
+-- the front of a row and what is behind it are as long as all
+pub both_long : (row front behind : List ℕ) (i : ℕ) → front ≡ take i row → behind ≡ drop i row → length (numbers row) ≡ length (numbers front) + length (numbers behind)
+both_long row front behind i f b =
+    sym (ap (λ z. length (numbers z)) (ap (λ z. z ++ behind) f ∙ ap (λ z. take i row ++ z) b ∙ take-append-drop i row))
+    ∙ ap length (numbers_both front behind) ∙ length-append (numbers front) (numbers behind)
+
 -- how long a line is
 pub words_long : (word row : List ℕ) → length (words word row) ≡ length word + length (numbers row) + 1
 words_long word row =

@@ -1,3 +1,4 @@
 pub mod Decimals
-mod Appending
+mod Putting
+mod Digits
 pub mod Fitting

@@ -1,15 +1,18 @@
 -- The line of a verdict, and what is left of text memory that it is written into.
-use Rattle.std.specs.Prelude.{◌≡◌, ℕ, ◌+◌, ◌<◌, ◌≤◌, List, [], ◌∷◌, ◌++◌, length, Ok, Err, codes, decimal, Result}
+use Rattle.std.specs.Prelude.{◌≡◌, ℕ, ◌+◌, ◌/◌, ◌%◌, ◌<◌, ◌≤◌, List, [], ◌∷◌, ◌++◌, length, take, drop, Ok, Err, codes, decimal, Result}
 use Rattle.refusals.specs.Refusals.{number_of, detail_of}
 use Rattle.refusals.specs.declared.Refusal.{Refusal}
 use Rattle.refusals.specs.declared.Refusal.TheVariants.{TextMemoryShort}
 use Rattle.answers.specs.Answers.{written}
-use Rattle.lists.proofs.Written.{Written}
 
 -- each number in decimal, after a space
 abbrev pub numbers : List ℕ → List ℕ
 numbers [] = []
 numbers (n ∷ ns) = (32 ∷ decimal n) ++ numbers ns
+
+-- the three digits of a number below 1,000, zeros in front too
+abbrev pub three_digits : ℕ → List ℕ
+three_digits n = (48 + n / 100) ∷ (48 + n % 100 / 10) ∷ (48 + n % 100 % 10) ∷ []
 
 -- a word, the numbers, and the byte that ends the line
 abbrev pub words : List ℕ → List ℕ → List ℕ
@@ -23,11 +26,11 @@ ok_line order = words (codes "ok") order
 abbrev pub no_line : Refusal → List ℕ
 no_line e = words (codes "no") (number_of e ∷ detail_of e ∷ [])
 
--- these bytes are added behind what is written so far, where there is room for them
-abbrev pub Appends : List ℕ → List ℕ → ℕ → List ℕ → ℕ → Type 0
-Appends items before n after n' =
-    (lent so_far : List ℕ) → Written lent so_far before n → length so_far + length items ≤ length lent →
-    Written lent (so_far ++ items) after n'
+-- these bytes are put into a line from a position on, up to an end, and nothing else is changed
+pub record Puts (bytes before : List ℕ) (begin : ℕ) (after : List ℕ) (end : ℕ) : Type 0 where
+  pub ends : end ≡ begin + length bytes
+  pub front : take end after ≡ take begin before ++ bytes
+  pub behind : drop end after ≡ drop end before
 
 -- what writing a line answers and leaves
 abbrev pub LineWritten : List ℕ → List ℕ → Result ℕ Refusal → List ℕ → Type 0

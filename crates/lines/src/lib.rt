@@ -7,8 +7,7 @@ ghost use Rattle.lines.specs.Lines.{words, ok_line, no_line, LineWritten};
 mod numbers;
 mod room;
 
-use lists::BoundedList;
-use numbers::{add_bytes, add_numbers};
+use numbers::put_numbers;
 use refusals::Refusal;
 use room::room_after;
 
@@ -39,9 +38,8 @@ fn write_words(text: &mut [u8], word: &[u8], row: &[u16]) -> Result<usize, Refus
     if left <= word.len() {
         return Err(Refusal::TextMemoryShort);
     }
-    let mut line = BoundedList::new(text);
-    add_bytes(&mut line, word);
-    add_numbers(&mut line, row);
-    add_bytes(&mut line, b"\n");
-    Ok(line.len())
+    text[..word.len()].copy_from_slice(word);
+    let end = put_numbers(text, word.len(), row);
+    text[end] = b'\n';
+    Ok(end + 1)
 }

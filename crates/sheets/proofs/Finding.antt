@@ -1,19 +1,23 @@
 -- What is found in a sheet, from what its parts are.
-use Rattle.std.proofs.Common.{◌≡◌, ℕ, ◌+◌, ◌*◌, ◌<◌, ◌≤◌, List, length, get_or, IfOk, Some, None, Ok, Err, Option, Result, sym, ap, ◌∙◌, subst, arith}
+use Rattle.std.proofs.Common.{◌≡◌, ℕ, ◌+◌, ◌*◌, ◌<◌, ◌≤◌, List, length, get_or, IfOk, Some, None, Ok, Err, Option, Result, Bool, true, false, not, refl, sym, ap, ◌∙◌, subst, arith}
 use Rattle.std.specs.Option.{option_or}
+use Rattle.std.specs.Prelude.{◌==◌, ◌||◌, nat_lt}
 use Rattle.std.proofs.lemmas.List.{get_or-take}
+use Rattle.std.proofs.lemmas.Bool.{eqb-true}
 use Rattle.refusals.specs.Answered.{answered}
 use Rattle.refusals.specs.declared.Refusal.{Refusal}
+use Rattle.refusals.specs.declared.Refusal.TheVariants.{WrongLength, PlacesOutOfRange, TooManyStepsOrArcs}
 use Rattle.theory.specs.Nets.{NetMeaning, NetLaw}
-use Rattle.formats.specs.Chained.{chained_steps, chained_arcs}
+use Rattle.formats.specs.Chained.{chained_places, chained_steps, chained_arcs, head_refusal, chained_refusal}
+use Rattle.formats.specs.Checks.{fault}
 use Rattle.answers.specs.States.{State, Target}
 use Rattle.answers.specs.Answers.{unless, written, resume_refusal, the_order, resume_answer}
 use Rattle.answers.proofs.Unless.{unless_refused}
-use Rattle.answers.proofs.Options.{or_first}
+use Rattle.answers.proofs.Options.{or_first, none_or}
 use Rattle.answers.proofs.Resumes.{long_now, fits_now}
 use Rattle.answers.proofs.Answered.{accepted_with}
-use Rattle.sheets.specs.Parts.{net_file, net_of, tally_of, target_in}
-use Rattle.sheets.specs.Verdicts.{form_refusal, sitting_of, sheet_refusal, sheet_order, order_entries}
+use Rattle.sheets.specs.Parts.{sheet_end, net_file, net_of, tally_of, target_in}
+use Rattle.sheets.specs.Verdicts.{net_refusal, form_refusal, sitting_of, sheet_refusal, sheet_order, order_entries}
 use Rattle.sheets.specs.Found.{Resumed, Found}
 
 -- what is said of a net, a state, a tally and a target is said of equal ones
@@ -43,6 +47,20 @@ fits_memory N law s tally T memory (Err e) h = tt
 -- the net's own file has the head of the sheet
 pub head_kept : (sheet : List ℕ) (i : ℕ) → i < 4 → get_or (net_file sheet) i 0 ≡ get_or sheet i 0
 head_kept sheet i h = get_or-take (4 + 3 * chained_steps sheet + 4 * chained_arcs sheet) sheet i 0 (omega arith)
+
+-- a sheet whose net is accepted has the length that its head tells
+pub sheet_long : (sheet : List ℕ) → net_refusal sheet ≡ None → sheet_end sheet ≤ length sheet
+sheet_long sheet none =
+    let head = (none_or (head_refusal sheet (sheet_end sheet)) (chained_refusal (net_file sheet)) none).0 in
+    let behind_length = (none_or (fault (nat_lt (length sheet) 4) WrongLength) _ head).1 in
+    let behind_places = (none_or (fault (chained_places sheet == 0 || nat_lt 64 (chained_places sheet)) PlacesOutOfRange) _ behind_length).1 in
+    let behind_steps = (none_or (fault (nat_lt 128 (chained_steps sheet) || nat_lt 1023 (chained_arcs sheet)) TooManyStepsOrArcs) _ behind_places).1 in
+    let last = (none_or (fault (not (length sheet == sheet_end sheet)) WrongLength) None behind_steps).0 in
+    omega (arith, eqb-true (length sheet) (sheet_end sheet) (no_fault (length sheet == sheet_end sheet) WrongLength last))
+  where
+    no_fault : (b : Bool) (e : Refusal) → fault (not b) e ≡ None → b ≡ true
+    no_fault true e h = refl
+    no_fault false e h = absurd (cc)
 
 module _ (sheet memory : List ℕ) where
   -- a sheet whose form is refused

@@ -7,7 +7,7 @@ ghost use Rattle.formats.specs.Chained.{chained_places, chained_steps};
 ghost use Rattle.layers.specs.Renamings.{renamed};
 ghost use Rattle.refusals.specs.declared.Refusal.TheVariants.{BoardRowUnfit};
 ghost use Rattle.sheets.specs.Found.{Resumed, Found};
-ghost use Rattle.sheets.specs.Parts.{kind_of, tally_of, target_in};
+ghost use Rattle.sheets.specs.Parts.{kind_of, tally_of, target_in, sheet_end};
 ghost use Rattle.sheets.specs.Verdicts.{unlawful, spare_given, order_entries};
 ghost use Rattle.theory.specs.Rows.{at};
 
@@ -49,6 +49,7 @@ fn resume_sheet<N: Net + Drop, B: Board + Drop>(
     order: &mut [u16],
 ) -> Result<usize, Refusal>
     requires kind { byte_of kind ≡ kind_of sheet.now.bytes.now }
+    requires long { sheet_end sheet.now.bytes.now ≤ length sheet.now.bytes.now }
     requires places { (N.meaning net).net.places ≡ chained_places sheet.now.bytes.now }
     requires steps { (N.meaning net).net.steps ≡ chained_steps sheet.now.bytes.now }
     ensures resumed { Resumed result order.old order.new (N.meaning net).net (new_on (B.counts board) (B.spare board)) (tally_of sheet.now.bytes.now) (target_in sheet.now.bytes.now) }

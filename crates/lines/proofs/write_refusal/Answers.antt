@@ -1,4 +1,4 @@
-use Rattle.std.proofs.Common.{◌<◌, List, [], ◌∷◌, codes, ℕ, arith}
+use Rattle.std.proofs.Common.{[], ◌∷◌, codes, arith}
 use Rattle.lines.specs.Lines.{words}
 use Rattle.lines.proofs.Decimals.{words_long, two_short}
 use Rattle.lines.proofs.Fitting.{fitting}

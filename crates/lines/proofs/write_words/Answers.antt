@@ -1,27 +1,24 @@
-use Rattle.std.proofs.Common.{◌≡◌, ◌+◌, ◌≤◌, [], ◌∷◌, ◌++◌, length, Some, refl, ap, ◌∙◌, arith, rules}
-use Rattle.answers.specs.Answers.{written}
-use Rattle.lists.proofs.Written.{Written}
+use Rattle.std.proofs.Common.{◌≡◌, ◌+◌, ◌≤◌, [], ◌∷◌, ◌++◌, length, drop, set, Some, arith, rules}
 use Rattle.lines.specs.Lines.{numbers, words}
-use Rattle.lines.proofs.Appending.{appends_both}
+use Rattle.lines.proofs.Putting.{puts_one, puts_both, puts_front, puts_line}
 use Rattle.lines.proofs.Decimals.{words_long}
 use Rattle.lines.proofs.write_words.Goals as goal
 
 pub returns : goal.returns
 returns c =
+    let text = c.args.text.now in
     let word = c.args.word.now in
     let row = c.args.row.now in
-    let l = c.new-line.result in
-    let l₁ = c.add_bytes.new.line in
-    let l₂ = c.add_numbers.new.line in
-    let l₃ = c.add_bytes-2.new.line in
-    let lent = l.memory.now in
-    let line = words word row in
+    let l₁ = c.copy_from_slice.new.self ++ drop (length word) text in
+    let l₂ = c.put_numbers-end.new.line in
+    let end = c.put_numbers-end.result in
+    let l₃ = set l₂ end 10 in
     let long = words_long word row in
-    let room : c.in_ok-left.left + length (numbers row) ≡ length c.args.text.now = (let some : c.room_after.result ≡ Some c.in_ok-left.left = search rules in rw some at c.room_after.ensures) in
-    let fits : length line ≤ length lent = omega (arith, room, ap length c.new-line.ensures.memory) in
-    let none : Written lent [] lent l.len = record { fits = omega arith; front = refl; long = c.new-line.ensures.empty } in
-    let all = appends_both word (numbers row ++ (10 ∷ [])) lent l.len l₁.memory.now l₁.len l₃.memory.now l₃.len c.add_bytes.ensures.appends
-    (appends_both (numbers row) (10 ∷ []) l₁.memory.now l₁.len l₂.memory.now l₂.len l₃.memory.now l₃.len c.add_numbers.ensures.appends c.add_bytes-2.ensures.appends) in
-    let w = all lent [] none (omega arith) in
-    let front : l₃.memory.now ≡ written line c.args.text.now = w.front ∙ ap (written line) c.new-line.ensures.memory in
-    (omega (arith, ap length c.new-line.ensures.memory), c.len.ensures ∙ w.long, search rules)
+    let room : c.in_ok-left.left + length (numbers row) ≡ length text = (let some : c.room_after.result ≡ Some c.in_ok-left.left = search rules in rw some at c.room_after.ensures) in
+    let fits : length (words word row) ≤ length text = omega arith in
+    let first = puts_front word text c.copy_from_slice.new.self c.copy_from_slice.ensures.after in
+    let last = puts_one 10 l₂ end (end + 1) (omega (arith, c.put_numbers-end.auto.line, c.put_numbers-end.ensures.ends)) (omega arith) in
+    let all = puts_both word (numbers row ++ (10 ∷ [])) text 0 l₁ (length word) l₃ (end + 1) first
+    (puts_both (numbers row) (10 ∷ []) l₁ (length word) l₂ end l₃ (end + 1) c.put_numbers-end.ensures last) in
+    let line = puts_line (words word row) text l₃ (end + 1) all in
+    (fits, line.0, line.1)

@@ -1,14 +1,15 @@
-use Rattle.std.proofs.Common.{◌+◌, ◌<◌, length, ap, arith}
-use Rattle.lines.proofs.Decimals.{one_more_long, front_short}
+use Rattle.std.proofs.Common.{arith}
+use Rattle.lines.proofs.Decimals.{both_long}
 use Rattle.lines.proofs.room.room_after.Goals as goal
 
 pub returns-in_err-left : goal.returns-in_err-left
 returns-in_err-left c =
-    let row = c.args.row.now in
-    let i = c.loop-number.number-index in
-    let past : c.loop-number.left < 1 + length c.format.result.now = omega (arith, c.in_err-left.ensures) in
-    rw c.from_residual.ensures (omega (arith, past, c.loop-number.invariant, ap length c.format.ensures.text, one_more_long row i c.loop-number-test.true, front_short row (i + 1)))
+    let rest = c.loop-rest.rest.now in
+    let split = both_long rest c.split_at.result.0.now c.split_at.result.1.now _ c.split_at.ensures.front c.split_at.ensures.back in
+    rw c.from_residual.ensures (omega (arith, c.in_err-left.ensures, c.from.ensures, c.length_of.ensures, c.loop-rest.invariant, split))
 
-pub loop-number-preserved : goal.loop-number-preserved
-loop-number-preserved c =
-    omega (arith, c.loop-number.invariant, c.in_ok-left.ensures, ap length c.format.ensures.text, one_more_long c.args.row.now c.loop-number.number-index c.loop-number-test.true)
+pub loop-rest-preserved : goal.loop-rest-preserved
+loop-rest-preserved c =
+    let rest = c.loop-rest.rest.now in
+    let split = both_long rest c.split_at.result.0.now c.split_at.result.1.now _ c.split_at.ensures.front c.split_at.ensures.back in
+    omega (arith, c.in_ok-left.ensures, c.from.ensures, c.length_of.ensures, c.loop-rest.invariant, split)

@@ -15,7 +15,7 @@ use Rattle.sheets.specs.Parts.{below, fours, net_of, start_of, kind_of, tally_of
 use Rattle.sheets.specs.Verdicts.{net_refusal, kind_unknown, unlawful, sitting_of}
 use Rattle.sheets.proofs.Forms.{same_form}
 use Rattle.sheets.specs.Found.{Resumed}
-use Rattle.sheets.proofs.Finding.{like, head_kept, found_unfit, found_resumed}
+use Rattle.sheets.proofs.Finding.{like, head_kept, sheet_long, found_unfit, found_resumed}
 use Rattle.sheets.proofs.verdict.find_order.Goals as goal
 
 byte_small : (kind : Kind) → byte_of kind < 2
@@ -69,6 +69,7 @@ resume_sheet-requires c =
     let file = c.in_ok-net.ensures.1 in
     record {
       kind = sym c.in_ok-kind.ensures ∙ c.byte_at.ensures ∙ ap (byte sheet) c.args.sheet.now.found.kind;
+      long = sheet_long sheet c.in_ok-net.ensures.0;
       places = ap chained_places file ∙ head_kept sheet 0 (omega arith);
       steps = ap chained_steps file ∙ head_kept sheet 1 (omega arith);
     }
