@@ -1,6 +1,6 @@
 -- What the checks of a step say of the net, the marking and the tally that the schedule shows.
 use Rattle.std.proofs.Common.{◌≡◌, ℕ, ◌<◌, ◌≤◌, Bool, true, false, not, ◌&&◌, ◌||◌, eqb, ltb, Some, None, Decides, sym, refl, ap, ◌∙◌, subst, inl, inr, arith}
-use Rattle.std.proofs.lemmas.Bool.{and_cases, not-false, cases_eq, ltb-true, ltb-false, lt-ltb, eqb-true, eq-eqb, and_parts, and_from, or_cases, or_parts}
+use Rattle.std.proofs.lemmas.Bool.{both_ways, cases_Bool, cases_lt, cases_eq, ltb-true, ltb-false, lt-ltb, eqb-true, eq-eqb, and_parts, and_from, or_cases, or_parts}
 use Rattle.theory.specs.Nets.{NetMeaning, NetLaw}
 use Rattle.theory.specs.Rows.{at}
 use Rattle.theory.specs.Firing.{Marking, fired}
@@ -9,11 +9,12 @@ use Rattle.theory.specs.Tests.{least, safe}
 use Rattle.theory.proofs.TallySums.{one_same, one_other}
 use Rattle.theory.specs.Orders.{less}
 use Rattle.place_sets.specs.Flags.{has}
+use Rattle.place_sets.proofs.FlagLaws.{has_none}
 use Rattle.schedules.specs.declared.schedule.Schedule.{Schedule}
 use Rattle.reached.specs.Led.{Led, has_at}
 use Rattle.theory.proofs.Decided.{least_found, none_found}
 use Rattle.schedules.specs.Tables.{Kept, keeps_in, marked_after, TakesLast}
-use Rattle.schedules.specs.Shows.{Shows, is_left}
+use Rattle.schedules.specs.Shows.{Shows, TellsSafe, is_left}
 use Rattle.schedules.proofs.Marked.{marked_fired}
 use Rattle.reached.proofs.Reaching.{led_decides}
 use Rattle.schedules.proofs.SafeFirings.{not_ready, safe_if_marked, safe_if_last, safe_if_back}
@@ -100,18 +101,18 @@ module _ (N : NetMeaning) (law : NetLaw N) (m : Marking) (x : Tally) (s : Schedu
         (subst (λ (q : ℕ). Decides r (Led (λ q z. has_at s.origins.before z q) (marked_after s t) q)) (h.inputs t) d))
 
 -- the first step that is safe, of those that are ready and were not told to be unsafe, is the least safe one
-module _ (N : NetMeaning) (law : NetLaw N) (m : Marking) (x : Tally) (s : Schedule) (h : Shows N m x s) (done : ℕ → Bool)
-    (unsafe : (t : ℕ) → t < N.steps → done t ≡ true → safe N m x t ≡ false) where
-  not_safe : (k : ℕ) → k < N.steps → (has s.ready k && not (done k)) ≡ false → safe N m x k ≡ false
-  not_safe k l e = elim (and_cases (has s.ready k) (not (done k)) e) [
-    | inl f ↦ safe_not_ready N law m x s h k l f
-    | inr f ↦ unsafe k l (not-false (done k) f)
+module _ (N : NetMeaning) (law : NetLaw N) (m : Marking) (x : Tally) (s : Schedule) (h : Shows N m x s) (rest : ℕ → Bool)
+    (unsafe : (t : ℕ) → t < N.steps → has s.ready t ≡ true → rest t ≡ false → safe N m x t ≡ false) where
+  not_safe : (k : ℕ) → k < N.steps → rest k ≡ false → safe N m x k ≡ false
+  not_safe k l e = elim (cases_Bool (has s.ready k)) [
+    | inl r ↦ unsafe k l r e
+    | inr f ↦ safe_not_ready N law m x s h k l f
   ]
 
-  pub none_safe : ((k : ℕ) → (has s.ready k && not (done k)) ≡ false) → None ≡ least (safe N m x) N.steps
+  pub none_safe : ((k : ℕ) → rest k ≡ false) → None ≡ least (safe N m x) N.steps
   none_safe none = sym ((none_found (safe N m x) N.steps).1 (λ k l. not_safe k l (none k)))
 
-  pub least_safe : (t : ℕ) → t < N.steps → safe N m x t ≡ true → ((k : ℕ) → k < t → (has s.ready k && not (done k)) ≡ false) →
+  pub least_safe : (t : ℕ) → t < N.steps → safe N m x t ≡ true → ((k : ℕ) → k < t → rest k ≡ false) →
       Some t ≡ least (safe N m x) N.steps
   least_safe t l e below = sym ((least_found (safe N m x) N.steps t).1 (l, e, λ k j. not_safe k (omega arith) (below k j)))
 
@@ -136,3 +137,32 @@ shows_kept N m x s s' k h = record {
     ready = λ u. ap (λ set. has set u) k.ready ∙ h.ready.ready u ∙ ap (λ set. is_left N x u && has set (N.input u)) (sym k.marked);
   };
 }
+
+pub kept_both : (s s' s₂ : Schedule) → Kept s s' → Kept s' s₂ → Kept s s₂
+kept_both s s' s₂ k l = record {
+  steps = l.steps ∙ k.steps;
+  left = l.left ∙ k.left;
+  inputs = l.inputs ∙ k.inputs;
+  yields = l.yields ∙ k.yields;
+  twice = l.twice ∙ k.twice;
+  marked = l.marked ∙ k.marked;
+  many = l.many ∙ k.many;
+  ready = l.ready ∙ k.ready;
+  takers = l.takers ∙ k.takers;
+  before = l.before ∙ k.before;
+}
+
+-- what is told by a schedule is told by one that differed at most in what searches found
+pub told_before : (s s' : Schedule) → Kept s s' → (t u : ℕ) → u ≡ t → (b : Bool) → TellsSafe s' t b → TellsSafe s u b
+told_before s s' k t u e b told = record {
+  told = λ N m x law h none l.
+      let T : ℕ → Type 0 = λ z. z < N.steps → b ≡ safe N m x z in
+      subst T (sym e) (told.told N m x law (shows_kept N m x s s' k h) none) l;
+}
+
+-- a set that has a number is not 0
+pub some_word : (w k : ℕ) → has w k ≡ true → 0 < w
+some_word w k e = elim (cases_lt 0 w) [
+  | inl l ↦ l
+  | inr z ↦ absurd (both_ways (has w k) (ap (λ (v : ℕ). has v k) (omega arith) ∙ has_none k) e)
+]

@@ -9,7 +9,6 @@ ghost use Rattle.theory.specs.Tallies.{NoPlaceCutOff};
 ghost use Rattle.theory.specs.Tests.{least, safe};
 
 use crate::schedule::Schedule;
-use step_sets::StepSet;
 
 impl Schedule {
     /// The least step that is safe, where no place is cut off. Only what searches found changes in the schedule.
@@ -17,12 +16,12 @@ impl Schedule {
         ensures answer { WhereShown self.old (λ N m x. NoPlaceCutOff N m x → result ≡ least (safe N m x) N.steps) }
         ensures kept { Kept self.old self.new }
     {
-        let mut done = StepSet::empty();
-        while let Some(step) = self.ready.minus(done).first() {
+        let mut rest = self.ready;
+        while let Some(step) = rest.first() {
             if self.is_safe(step) {
                 return Some(step);
             }
-            done = done.with(step);
+            rest = rest.without_first();
         }
         None
     }

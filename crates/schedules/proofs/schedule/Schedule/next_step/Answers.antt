@@ -1,24 +1,43 @@
-use Rattle.std.proofs.Common.{◌≡◌, ℕ, ◌<◌, true, not, sym, ◌∙◌}
-use Rattle.std.proofs.lemmas.Bool.{and_parts}
+use Rattle.std.proofs.Common.{◌≡◌, ℕ, eqb, ◌<◌, false, not, ◌&&◌, sym, ap, ◌∙◌, inl, inr}
+use Rattle.std.proofs.lemmas.Bool.{cases_Bool, both_ways, and_parts, and_cases, not-false, eqb-true}
 use Rattle.place_sets.specs.Flags.{has}
-use Rattle.schedules.proofs.Chosen.{none_safe, least_safe, a_step, shows_kept}
+use Rattle.schedules.proofs.Chosen.{none_safe, least_safe, a_step, shows_kept, kept_both, told_before, some_word}
 use Rattle.schedules.proofs.schedule.Schedule.next_step.Goals as goal
+
+pub is_safe-requires : goal.is_safe-requires
+is_safe-requires c =
+    ap (λ set. has set c.in-Some.step) c.loop-step.invariant.0.ready ∙ c.loop-step.invariant.1 c.in-Some.step c.in-Some.ensures.cases.in_it
+
+pub loop-step-smaller : goal.loop-step-smaller
+loop-step-smaller c = c.without_first-rest.ensures.shrinks (some_word c.loop-step.rest c.in-Some.step c.in-Some.ensures.cases.in_it)
+
+pub loop-step-preserved : goal.loop-step-preserved
+loop-step-preserved c =
+    let k : ℕ = c.in-Some.step in
+    let inv = c.loop-step.invariant in
+    let left : (t : ℕ) → has c.without_first-rest.result t ≡ (has c.loop-step.rest t && not (eqb t k)) = c.without_first-rest.ensures.answer k c.in-Some.ensures.cases in (
+      kept_both c.args.self.now c.loop-step.self c.is_safe.new.self inv.0 c.if-is_safe.ensures.kept,
+      λ t e. inv.1 t (and_parts (has c.loop-step.rest t) (not (eqb t k)) (sym (left t) ∙ e)).0,
+      λ t r e. elim (cases_Bool (has c.loop-step.rest t)) [
+        | inr f ↦ inv.2 t r f
+        | inl f ↦ elim (and_cases (has c.loop-step.rest t) (not (eqb t k)) (sym (left t) ∙ e)) [
+          | inl g ↦ absurd (both_ways (has c.loop-step.rest t) g f)
+          | inr g ↦ told_before c.args.self.now c.loop-step.self inv.0 k t (eqb-true t k (not-false (eqb t k) g)) false c.if-is_safe.ensures.answer
+        ]
+      ],
+    )
 
 pub returns-then-is_safe-clause-answer : goal.returns-then-is_safe-clause-answer
 returns-then-is_safe-clause-answer c N m x law h none =
-    let s = c.loop-step.self in
     let t : ℕ = c.in-Some.step in
-    let done = has c.loop-step.done in
-    let h' = shows_kept N m x c.args.self.now s c.loop-step.invariant.0 h in
+    let s = c.args.self.now in
+    let inv = c.loop-step.invariant in
     let first = c.in-Some.ensures.cases in
-    let ready : has s.ready t ≡ true = (and_parts (has s.ready t) (not (done t)) (sym (c.minus.ensures.answer t) ∙ first.in_it)).0 in
-    let l : t < N.steps = a_step N m x s h' t ready in
-    least_safe N law m x s h' done (λ k j e. sym ((c.loop-step.invariant.1 k e).told N m x law h none j))
-    t l (sym (c.if-is_safe.ensures.answer.told N m x law h' none l)) (λ k j. sym (c.minus.ensures.answer k) ∙ first.least k j)
+    let l : t < N.steps = a_step N m x s h t (inv.1 t first.in_it) in
+    least_safe N law m x s h (has c.loop-step.rest) (λ k j r e. sym ((inv.2 k r e).told N m x law h none j))
+    t l (sym (c.if-is_safe.ensures.answer.told N m x law (shows_kept N m x s c.loop-step.self inv.0 h) none l)) first.least
 
 pub returns-clause-answer : goal.returns-clause-answer
 returns-clause-answer c N m x law h none =
-    let s = c.loop-step.self in
-    let h' = shows_kept N m x c.args.self.now s c.loop-step.invariant.0 h in
-    none_safe N law m x s h' (has c.loop-step.done) (λ k j e. sym ((c.loop-step.invariant.1 k e).told N m x law h none j))
-    (λ k. sym (c.minus.ensures.answer k) ∙ c.in_default.ensures.cases k)
+    none_safe N law m x c.args.self.now h (has c.loop-step.rest) (λ k j r e. sym ((c.loop-step.invariant.2 k r e).told N m x law h none j))
+    c.in_default.ensures.cases

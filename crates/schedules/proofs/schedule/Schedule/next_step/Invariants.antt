@@ -1,15 +1,15 @@
-use Rattle.std.proofs.Common.{◌≡◌, ℕ, ◌-◌, ◌^◌, ◌<◌, true, false}
+use Rattle.std.proofs.Common.{◌≡◌, ℕ, true, false}
 use Rattle.place_sets.specs.Flags.{has}
 use Rattle.schedules.specs.Shows.{TellsSafe}
 use Rattle.schedules.specs.Tables.{Kept}
 use Rattle.schedules.proofs.schedule.Schedule.next_step.Given as goal
 
--- the steps done so far are told not to be safe
+-- the steps that are ready and not among the rest are told not to be safe
 abbrev pub invariant-loop-step : goal.invariant-loop-step
 invariant-loop-step l =
     Kept l.initial.self l.self
-    × ((t : ℕ) → has l.done t ≡ true → TellsSafe l.initial.self t false)
-    × (l.done < 2 ^ 128)
+    × ((t : ℕ) → has l.rest t ≡ true → has l.initial.self.ready t ≡ true)
+    × ((t : ℕ) → has l.initial.self.ready t ≡ true → has l.rest t ≡ false → TellsSafe l.initial.self t false)
 
 abbrev pub decreases-loop-step : goal.decreases-loop-step
-decreases-loop-step l = 2 ^ 128 - l.done
+decreases-loop-step l = l.rest
