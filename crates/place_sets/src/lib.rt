@@ -42,7 +42,8 @@ impl PlaceSet {
         // A `fold` after a `filter` is proved by what the closure gives each turn, which stayed open for sets where it
         // was tried (the leads of a place).
         let mut places = PlaceSet::empty();
-        for place in 0..end {
+        // Where the end is cut off first, `with` need not compare each place with it.
+        for place in 0..end.min(PLACES) {
             if test(place) {
                 places = places.with(place);
             }
@@ -77,6 +78,18 @@ impl PlaceSet {
         ensures { (p : ℕ) → has result p ≡ (has self p && not (p == place)) }
     {
         self.minus(PlaceSet::empty().with(place))
+    }
+
+    /// The set without its least place.
+    pub fn without_first(self) -> PlaceSet
+        ensures answer { (k : ℕ) → IsFirst 64 self k → (p : ℕ) → has result p ≡ (has self p && not (p == k)) }
+        ensures none { Empty self → Empty result }
+        ensures shrinks { 0 < self → result < self }
+    {
+        // the word less 1 differs from it in its lowest 1 and the zeros below
+        PlaceSet {
+            word: self.word & self.word.wrapping_sub(1),
+        }
     }
 
     /// The places of either set.
