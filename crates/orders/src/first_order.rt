@@ -20,11 +20,11 @@ use totals::asked::steps_asked;
 pub(crate) fn fire_first_order<N: Net, B: Board>(
     net: &N,
     board: &mut B,
-    mut schedule: Schedule,
+    schedule: &mut Schedule,
     tally: &[u16],
     memory: &mut [u16],
 ) -> usize
-    requires shows { Shows (N.meaning net.now).net (B.counts board.old) (at tally.now) schedule }
+    requires shows { Shows (N.meaning net.now).net (B.counts board.old) (at tally.now) schedule.old }
     requires can { Realizable (N.meaning net.now).net (B.counts board.old) (at tally.now) }
     requires room { yields_asked (N.meaning net.now).net (at tally.now) ≤ B.spare board.old }
     requires long { steps_asked (N.meaning net.now).net (at tally.now) ≤ length memory.old }

@@ -36,6 +36,6 @@ pub fn fire_tally<N: Net, B: Board>(
     let counts = all_counts(board);
     let asked = Asked::new(net, &counts, tally, target.numbers, kind);
     check_causes(&asked)?;
-    let schedule = Schedule::new(net, &counts, tally);
-    Ok(fire_first_order(net, board, schedule, tally, memory))
+    let mut schedule = Schedule::new(net, &counts, tally);
+    Ok(fire_first_order(net, board, &mut schedule, tally, memory))
 }

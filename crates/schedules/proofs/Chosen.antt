@@ -9,7 +9,6 @@ use Rattle.theory.specs.Tests.{least, safe}
 use Rattle.theory.proofs.TallySums.{one_same, one_other}
 use Rattle.theory.specs.Orders.{less}
 use Rattle.place_sets.specs.Flags.{has}
-use Rattle.place_sets.proofs.FlagLaws.{has_none}
 use Rattle.schedules.specs.declared.schedule.Schedule.{Schedule}
 use Rattle.reached.specs.Led.{Led, has_at}
 use Rattle.theory.proofs.Decided.{least_found, none_found}
@@ -159,10 +158,3 @@ told_before s s' k t u e b told = record {
       let T : ℕ → Type 0 = λ z. z < N.steps → b ≡ safe N m x z in
       subst T (sym e) (told.told N m x law (shows_kept N m x s s' k h) none) l;
 }
-
--- a set that has a number is not 0
-pub some_word : (w k : ℕ) → has w k ≡ true → 0 < w
-some_word w k e = elim (cases_lt 0 w) [
-  | inl l ↦ l
-  | inr z ↦ absurd (both_ways (has w k) (ap (λ (v : ℕ). has v k) (omega arith) ∙ has_none k) e)
-]

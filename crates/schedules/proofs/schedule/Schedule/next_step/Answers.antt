@@ -1,7 +1,8 @@
 use Rattle.std.proofs.Common.{◌≡◌, ℕ, eqb, ◌<◌, false, not, ◌&&◌, sym, ap, ◌∙◌, inl, inr}
 use Rattle.std.proofs.lemmas.Bool.{cases_Bool, both_ways, and_parts, and_cases, not-false, eqb-true}
 use Rattle.place_sets.specs.Flags.{has}
-use Rattle.schedules.proofs.Chosen.{none_safe, least_safe, a_step, shows_kept, kept_both, told_before, some_word}
+use Rattle.schedules.proofs.Chosen.{none_safe, least_safe, a_step, shows_kept, kept_both, told_before}
+use Rattle.place_sets.proofs.LeastFlag.{some_not_zero}
 use Rattle.schedules.proofs.schedule.Schedule.next_step.Goals as goal
 
 pub is_safe-requires : goal.is_safe-requires
@@ -9,7 +10,7 @@ is_safe-requires c =
     ap (λ set. has set c.in-Some.step) c.loop-step.invariant.0.ready ∙ c.loop-step.invariant.1 c.in-Some.step c.in-Some.ensures.cases.in_it
 
 pub loop-step-smaller : goal.loop-step-smaller
-loop-step-smaller c = c.without_first-rest.ensures.shrinks (some_word c.loop-step.rest c.in-Some.step c.in-Some.ensures.cases.in_it)
+loop-step-smaller c = c.without_first-rest.ensures.shrinks (some_not_zero c.loop-step.rest c.in-Some.step c.in-Some.ensures.cases.in_it)
 
 pub loop-step-preserved : goal.loop-step-preserved
 loop-step-preserved c =
