@@ -50,6 +50,10 @@ byte_below k n h = ap from_bool (lt-leb k n h)
 pub byte_from : (k n : ℕ) → k ≤ n → from_bool (leb k n) ≡ 1
 byte_from k n h = ap from_bool (le-leb k n h)
 
+pub byte_small : (k n : ℕ) → from_bool (leb k n) ≤ 1
+byte_small k n =
+    ⊎_elim (λ (l : n < k). omega (arith, byte_below k n l)) (λ (h : k ≤ n). omega (arith, byte_from k n h)) (cases_lt n k)
+
 -- a number below 1,000 has a digit, one more from ten on, and one more from a hundred on
 pub short_long : (n : ℕ) → n < 1000 → length (decimal n) ≡ 1 + from_bool (leb 100 n) + from_bool (leb 10 n)
 short_long n small =

@@ -1,4 +1,5 @@
 pub mod Decimals
 mod Putting
 mod Digits
+mod Pieces
 pub mod Fitting

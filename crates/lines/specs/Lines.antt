@@ -1,5 +1,5 @@
 -- The line of a verdict, and what is left of text memory that it is written into.
-use Rattle.std.specs.Prelude.{◌≡◌, ℕ, ◌+◌, ◌/◌, ◌%◌, ◌<◌, ◌≤◌, List, [], ◌∷◌, ◌++◌, length, take, drop, Ok, Err, codes, decimal, Result}
+use Rattle.std.specs.Prelude.{◌≡◌, ℕ, ◌+◌, ◌/◌, ◌%◌, ◌<◌, ◌≤◌, List, [], ◌∷◌, ◌++◌, length, take, Ok, Err, codes, decimal, Result}
 use Rattle.refusals.specs.Refusals.{number_of, detail_of}
 use Rattle.refusals.specs.declared.Refusal.{Refusal}
 use Rattle.refusals.specs.declared.Refusal.TheVariants.{TextMemoryShort}
@@ -26,11 +26,10 @@ ok_line order = words (codes "ok") order
 abbrev pub no_line : Refusal → List ℕ
 no_line e = words (codes "no") (number_of e ∷ detail_of e ∷ [])
 
--- these bytes are put into a line from a position on, up to an end, and nothing else is changed
+-- these bytes are put into a line from a position on, up to an end, and the line in front of them is the same
 pub record Puts (bytes before : List ℕ) (begin : ℕ) (after : List ℕ) (end : ℕ) : Type 0 where
   pub ends : end ≡ begin + length bytes
   pub front : take end after ≡ take begin before ++ bytes
-  pub behind : drop end after ≡ drop end before
 
 -- what writing a line answers and leaves
 abbrev pub LineWritten : List ℕ → List ℕ → Result ℕ Refusal → List ℕ → Type 0

@@ -38,8 +38,10 @@ fn write_words(text: &mut [u8], word: &[u8], row: &[u16]) -> Result<usize, Refus
     if left <= word.len() {
         return Err(Refusal::TextMemoryShort);
     }
-    text[..word.len()].copy_from_slice(word);
-    let end = put_numbers(text, word.len(), row);
-    text[end] = b'\n';
-    Ok(end + 1)
+    let length = text.len() - left + word.len() + 1;
+    let line = &mut text[..length];
+    line[..word.len()].copy_from_slice(word);
+    let end = put_numbers(line, word.len(), row);
+    line[end] = b'\n';
+    Ok(length)
 }

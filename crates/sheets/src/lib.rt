@@ -1,19 +1,22 @@
 //! Sheets: one sheet in, one line out.
 #![tactic(auto)]
 
+ghost use Rattle.sheets.specs.Found.{Suffices};
 ghost use Rattle.lines.specs.Lines.{LineWritten};
 ghost use Rattle.sheets.specs.Verdicts.{longest_line, sheet_line, Judged};
 ghost use Rattle.std.specs.Prelude.{◌≤◌, length, IsOk};
 
+mod memory;
 mod parts;
 mod rows;
 mod sheet;
 mod verdict;
 
 use lines::{write_order, write_refusal};
+use memory::{FEW_ENTRIES, ORDER_ENTRIES, asks_few};
 use refusals::Refusal;
 use sheet::Sheet;
-use verdict::{ORDER_ENTRIES, find_order};
+use verdict::find_order;
 
 /// The longest line: `ok`, 4,096 steps of three digits, each after a space, and the line's end.
 pub const LONGEST_LINE: usize = 3 + 4 * ORDER_ENTRIES;
@@ -26,8 +29,21 @@ pub fn judge(sheet: &[u8], text: &mut [u8]) -> Result<usize, Refusal>
     ensures verdict { Judged sheet.now (sheet_line sheet.now) }
     ensures fits { longest_line ≤ length text.old → IsOk result }
 {
-    let mut order = [0u16; ORDER_ENTRIES];
-    match find_order(&Sheet::new(sheet), &mut order) {
+    if asks_few(&Sheet::new(sheet)) {
+        write_verdict(sheet, &mut [0; FEW_ENTRIES], text)
+    } else {
+        write_verdict(sheet, &mut [0; ORDER_ENTRIES], text)
+    }
+}
+
+/// Judges a sheet, whose order is found in memory that suffices.
+fn write_verdict(sheet: &[u8], order: &mut [u16], text: &mut [u8]) -> Result<usize, Refusal>
+    requires { Suffices sheet.now (length order.old) }
+    ensures line { LineWritten (sheet_line sheet.now) text.old result text.new }
+    ensures verdict { Judged sheet.now (sheet_line sheet.now) }
+    ensures fits { longest_line ≤ length text.old → IsOk result }
+{
+    match find_order(&Sheet::new(sheet), order) {
         Ok(length) => write_order(text, &order[..length]),
         Err(refusal) => write_refusal(text, refusal),
     }

@@ -1,4 +1,4 @@
-use Rattle.std.proofs.Common.{◌≡◌, ◌≤◌, ℕ, List, length, get_or, take, drop, replicate, Some, None, Ok, sym, ap, ◌∙◌, subst, arith}
+use Rattle.std.proofs.Common.{◌≡◌, ◌≤◌, ℕ, List, length, get_or, take, drop, Some, None, Ok, sym, ap, ◌∙◌, subst, arith}
 use Rattle.std.proofs.lemmas.List.{take_at}
 use Rattle.refusals.specs.Answered.{answered}
 use Rattle.answers.specs.Answers.{unless, written}
@@ -8,13 +8,13 @@ use Rattle.answers.proofs.Answered.{refused_with, accepted_with}
 use Rattle.sheets.specs.Verdicts.{sheet_refusal, sheet_order, sheet_line, line_for}
 use Rattle.lines.proofs.Fitting.{fitting}
 use Rattle.sheets.proofs.Judging.{judged, ok_short}
-use Rattle.sheets.proofs.judge.Goals as goal
+use Rattle.sheets.proofs.write_verdict.Goals as goal
 
 pub returns-in-Ok : goal.returns-in-Ok
 returns-in-Ok c =
     let sheet = c.args.sheet.now in
     let order = sheet_order sheet in
-    let memory : List ℕ = replicate 4096 0 in
+    let memory = c.args.order.now in
     let n = c.in-Ok.length in
     let found = subst (λ (z : List ℕ). Found z memory c.find_order.result c.find_order.new.order) c.new.ensures c.find_order.ensures in
     let none : sheet_refusal sheet ≡ None = accepted_with (sheet_refusal sheet) (length order) n (sym c.in-Ok.is ∙ found.answer) in
@@ -36,7 +36,7 @@ pub returns-in-Err : goal.returns-in-Err
 returns-in-Err c =
     let sheet = c.args.sheet.now in
     let order = sheet_order sheet in
-    let memory : List ℕ = replicate 4096 0 in
+    let memory = c.args.order.now in
     let e = c.in-Err.refusal in
     let found = subst (λ (z : List ℕ). Found z memory c.find_order.result c.find_order.new.order) c.new.ensures c.find_order.ensures in
     let some : sheet_refusal sheet ≡ Some e = refused_with (sheet_refusal sheet) (length order) e (sym c.in-Err.is ∙ found.answer) in
