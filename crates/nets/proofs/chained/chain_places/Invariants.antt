@@ -4,4 +4,4 @@ use Rattle.nets.proofs.Walks.{Gathered}
 use Rattle.nets.proofs.chained.chain_places.Given as goal
 
 abbrev pub invariant-loop-seen : goal.invariant-loop-seen
-invariant-loop-seen l = Gathered l.file l.first (chained_arcs l.file - l._seen) l.arc l.places
+invariant-loop-seen l = Gathered l.file l.first (chained_arcs l.file - l._seen) l.number l.places

@@ -4,4 +4,4 @@ use Rattle.nets.proofs.Walks.{Written}
 use Rattle.nets.proofs.chained.chain_yields.Given as goal
 
 abbrev pub invariant-loop-seen : goal.invariant-loop-seen
-invariant-loop-seen l = Written l.file l.first (chained_arcs l.file - l._seen) l.arc l.weights
+invariant-loop-seen l = Written l.file l.first (chained_arcs l.file - l._seen) l.number l.weights
