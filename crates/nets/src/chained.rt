@@ -96,11 +96,12 @@ fn arc_unfit(file: &[u8], number: u16) -> bool
     ensures { result ≡ arc_unfit file.now number }
 {
     let arc = arc_at(file, number);
-    let next_fits = arc.next == 0
-        || (number < arc.next
-            && arc.next <= arcs(file)
-            && arc.place < arc_at(file, arc.next).place);
-    arc.place >= file[0] || arc.weight == 0 || !next_fits
+    arc.place >= file[0]
+        || arc.weight == 0
+        || !(arc.next == 0
+            || (number < arc.next
+                && arc.next <= arcs(file)
+                && arc.place < arc_at(file, arc.next).place))
 }
 
 /// How many bytes the head tells.
@@ -157,11 +158,7 @@ fn chain_yield(file: &[u8], first: u16, place: u8) -> u8
     ensures { result ≡ chain_yield file.now (chained_arcs file.now) first place }
 {
     let mut number = first;
-    // A chain is no iterator: the turns are counted, so that the walk is seen to end.
-    for _seen in 0..arcs(file) {
-        if number == 0 {
-            return 0;
-        }
+    while number != 0 {
         let arc = arc_at(file, number);
         if arc.place == place {
             return arc.weight;
@@ -179,11 +176,8 @@ fn chain_yields(file: &[u8], first: u16) -> [u8; MOST_PLACES]
 {
     let mut weights = [0; MOST_PLACES];
     let mut number = first;
-    // As in `chain_yield`. Places rise along a chain, so that none is written twice.
-    for _seen in 0..arcs(file) {
-        if number == 0 {
-            return weights;
-        }
+    // Places rise along a chain, so that none is written twice.
+    while number != 0 {
         let arc = arc_at(file, number);
         weights[usize::from(arc.place)] = arc.weight;
         number = arc.next;
@@ -199,11 +193,7 @@ fn chain_places(file: &[u8], first: u16) -> PlaceSet
 {
     let mut places = PlaceSet::empty();
     let mut number = first;
-    // As in `chain_yield`.
-    for _seen in 0..arcs(file) {
-        if number == 0 {
-            return places;
-        }
+    while number != 0 {
         let arc = arc_at(file, number);
         places = places.with(arc.place);
         number = arc.next;
@@ -249,11 +239,11 @@ impl Net for ChainedNet<'_> {
     ghost meaning = { λ n. record { net = chained_net n.file.now; law = chained_lawful n.file.now n.bytes n.sound } };
 
     fn places(&self) -> u8 {
-        byte_at(self.file, 0)
+        self.file[0]
     }
 
     fn steps(&self) -> u16 {
-        u16::from(byte_at(self.file, 1))
+        u16::from(self.file[1])
     }
 
     fn input(&self, step: u16) -> Option<u8> {
