@@ -1,7 +1,7 @@
 //! The chained net: the yields of a step are a chain of arcs.
-ghost use Rattle.std.specs.Prelude.{◌≡◌, ℕ, ◌^◌, ◌<◌, ◌≤◌, Some, None, MatchResult, false, is_some, is_ok, nat_lt, if◌then◌else◌, slice_index};
+ghost use Rattle.std.specs.Prelude.{◌≡◌, ℕ, ◌^◌, ◌<◌, ◌≤◌, Some, None, MatchResult, false, is_some, is_ok, nat_lt, if◌then◌else◌, slice_index, length};
 ghost use Rattle.formats.proofs.ChainedLaw.{chained_lawful};
-ghost use Rattle.formats.specs.Chained.{chained_arcs, chained_input, first_arc, arc_begin, arc_place, arc_weight, arc_next, next_fits, chained_step_unfit, arc_unfit, chain_yield, chained_end, head_refusal, chained_rows_refusal, chained_refusal, chained_net};
+ghost use Rattle.formats.specs.Chained.{chained_steps, chained_arcs, chained_input, first_arc, arc_place, arc_weight, arc_next, chained_step_unfit, arc_unfit, chain_yield, chained_end, head_refusal, chained_rows_refusal, chained_refusal, chained_net};
 ghost use Rattle.place_sets.specs.Flags.{has};
 ghost use Rattle.refusals.specs.Answered.{answered};
 ghost use Rattle.theory.specs.Rows.{at};
@@ -26,6 +26,15 @@ const MOST_ARCS: u16 = 1023;
 
 const ONE_PLACE: [u8; 4] = [1, 0, 0, 0];
 
+/// An arc of a chain.
+#[derive(Clone, Copy)]
+struct Arc {
+    place: u8,
+    weight: u8,
+    /// The arc that follows; 0 for none.
+    next: u16,
+}
+
 /// How many arcs there are.
 fn arcs(file: &[u8]) -> u16
     ensures { result ≡ chained_arcs file.now }
@@ -33,73 +42,66 @@ fn arcs(file: &[u8]) -> u16
     pair_at(file, 2)
 }
 
+// The functions below ask for a file that is as long as its head tells: there each byte of a step or arc lies in the
+// file, so that none is looked for past its end.
+
 /// The place at which a step takes its block.
 fn input_of(file: &[u8], step: u16) -> u8
+    requires whole { length file.now ≡ chained_end file.now }
+    requires inside { step < chained_steps file.now }
     ensures { result ≡ chained_input file.now step }
 {
-    byte_at(file, HEAD + 3 * usize::from(step))
+    file[HEAD + 3 * usize::from(step)]
 }
 
 /// The arc with which the chain of a step begins; 0 for none.
 fn first_arc(file: &[u8], step: u16) -> u16
+    requires whole { length file.now ≡ chained_end file.now }
+    requires inside { step < chained_steps file.now }
     ensures { result ≡ first_arc file.now step }
 {
-    pair_at(file, HEAD + 3 * usize::from(step) + 1)
+    let begin = HEAD + 3 * usize::from(step);
+    u16::from_be_bytes([file[begin + 1], file[begin + 2]])
 }
 
 /// Whether the input of a step is no place of the net, or its first arc is no arc.
 fn step_unfit(file: &[u8], step: u16) -> bool
+    requires whole { length file.now ≡ chained_end file.now }
+    requires inside { step < chained_steps file.now }
     ensures { result ≡ chained_step_unfit file.now step }
 {
-    input_of(file, step) >= byte_at(file, 0) || first_arc(file, step) > arcs(file)
+    input_of(file, step) >= file[0] || first_arc(file, step) > arcs(file)
 }
 
-/// Where the bytes of an arc begin; arcs are numbered from 1.
-fn begin(file: &[u8], arc: u32) -> usize
-    ensures is { result ≡ arc_begin file.now arc }
-    ensures bound { result < 2 ^ 40 }
+/// An arc; they are numbered from 1.
+fn arc_at(file: &[u8], number: u16) -> Arc
+    requires whole { length file.now ≡ chained_end file.now }
+    requires inside { number ≤ chained_arcs file.now }
+    ensures place { result.place ≡ arc_place file.now number }
+    ensures weight { result.weight ≡ arc_weight file.now number }
+    ensures next { result.next ≡ arc_next file.now number }
 {
-    // a cast, since a `u32` has no `From` into a `usize`
-    3 * usize::from(byte_at(file, 1)) + 4 * arc as usize
+    let begin = 3 * usize::from(file[1]) + 4 * usize::from(number);
+    Arc {
+        place: file[begin],
+        weight: file[begin + 1],
+        next: u16::from_be_bytes([file[begin + 2], file[begin + 3]]),
+    }
 }
 
-/// The place at which an arc yields.
-fn place_of(file: &[u8], arc: u32) -> u8
-    ensures { result ≡ arc_place file.now arc }
+/// Whether an arc is at no place of the net, has no weight or goes on wrongly: not to a later arc at a higher place.
+fn arc_unfit(file: &[u8], number: u16) -> bool
+    requires whole { length file.now ≡ chained_end file.now }
+    requires inside { number ≤ chained_arcs file.now }
+    ensures { result ≡ arc_unfit file.now number }
 {
-    byte_at(file, begin(file, arc))
-}
-
-/// How many blocks an arc yields.
-fn weight_of(file: &[u8], arc: u32) -> u8
-    ensures { result ≡ arc_weight file.now arc }
-{
-    byte_at(file, begin(file, arc) + 1)
-}
-
-/// The arc that follows an arc; 0 for none.
-fn next_of(file: &[u8], arc: u32) -> u16
-    ensures { result ≡ arc_next file.now arc }
-{
-    pair_at(file, begin(file, arc) + 2)
-}
-
-/// Whether the arc ends its chain, or goes on to a later arc at a higher place.
-fn next_fits(file: &[u8], arc: u32) -> bool
-    ensures { result ≡ next_fits file.now arc }
-{
-    let next = u32::from(next_of(file, arc));
-    next == 0
-        || (arc < next
-            && next <= u32::from(arcs(file))
-            && place_of(file, arc) < place_of(file, next))
-}
-
-/// Whether an arc is at no place of the net, has no weight or goes on wrongly.
-fn arc_unfit(file: &[u8], arc: u32) -> bool
-    ensures { result ≡ arc_unfit file.now arc }
-{
-    place_of(file, arc) >= byte_at(file, 0) || weight_of(file, arc) == 0 || !next_fits(file, arc)
+    let arc = arc_at(file, number);
+    arc.place >= file[0]
+        || arc.weight == 0
+        || !(arc.next == 0
+            || (number < arc.next
+                && arc.next <= arcs(file)
+                && arc.place < arc_at(file, arc.next).place))
 }
 
 /// How many bytes the head tells.
@@ -133,13 +135,14 @@ pub fn check_head_to(file: &[u8], end: usize) -> Result<(), Refusal>
 
 /// The checks of the steps and arcs; the first that fails decides.
 fn check_rows(file: &[u8]) -> Result<(), Refusal>
+    requires { length file.now ≡ chained_end file.now }
     ensures { result ≡ answered (chained_rows_refusal file.now) tt }
 {
-    let steps = u16::from(byte_at(file, 1));
+    let steps = u16::from(file[1]);
     if let Some(step) = least_below(steps, |step| step_unfit(file, step)) {
         return Err(Refusal::StepUnfit(step));
     }
-    if let Some(number) = least_below(arcs(file), |number| arc_unfit(file, u32::from(number) + 1)) {
+    if let Some(number) = least_below(arcs(file), |number| arc_unfit(file, number + 1)) {
         return Err(Refusal::ArcUnfit(number + 1));
     }
     if let Some(step) = least_below(steps, |step| first_arc(file, step) == 0) {
@@ -150,18 +153,17 @@ fn check_rows(file: &[u8]) -> Result<(), Refusal>
 
 /// The weight of a chain's arc at a place, 0 where it has none there.
 fn chain_yield(file: &[u8], first: u16, place: u8) -> u8
+    requires accepted { is_some (chained_refusal file.now) ≡ false }
+    requires inside { first ≤ chained_arcs file.now }
     ensures { result ≡ chain_yield file.now (chained_arcs file.now) first place }
 {
-    let mut arc = u32::from(first);
-    // A chain is no iterator: the turns are counted, so that the walk is seen to end.
-    for _seen in 0..arcs(file) {
-        if arc == 0 {
-            return 0;
+    let mut number = first;
+    while number != 0 {
+        let arc = arc_at(file, number);
+        if arc.place == place {
+            return arc.weight;
         }
-        if place_of(file, arc) == place {
-            return weight_of(file, arc);
-        }
-        arc = u32::from(next_of(file, arc));
+        number = arc.next;
     }
     0
 }
@@ -173,14 +175,12 @@ fn chain_yields(file: &[u8], first: u16) -> [u8; MOST_PLACES]
     ensures { (p : ℕ) → at result p ≡ chain_yield file.now (chained_arcs file.now) first p }
 {
     let mut weights = [0; MOST_PLACES];
-    let mut arc = u32::from(first);
-    // As in `chain_yield`. Places rise along a chain, so that none is written twice.
-    for _seen in 0..arcs(file) {
-        if arc == 0 {
-            return weights;
-        }
-        weights[usize::from(place_of(file, arc))] = weight_of(file, arc);
-        arc = u32::from(next_of(file, arc));
+    let mut number = first;
+    // Places rise along a chain, so that none is written twice.
+    while number != 0 {
+        let arc = arc_at(file, number);
+        weights[usize::from(arc.place)] = arc.weight;
+        number = arc.next;
     }
     weights
 }
@@ -192,14 +192,11 @@ fn chain_places(file: &[u8], first: u16) -> PlaceSet
     ensures { (p : ℕ) → has result p ≡ nat_lt 0 (chain_yield file.now (chained_arcs file.now) first p) }
 {
     let mut places = PlaceSet::empty();
-    let mut arc = u32::from(first);
-    // As in `chain_yield`.
-    for _seen in 0..arcs(file) {
-        if arc == 0 {
-            return places;
-        }
-        places = places.with(place_of(file, arc));
-        arc = u32::from(next_of(file, arc));
+    let mut number = first;
+    while number != 0 {
+        let arc = arc_at(file, number);
+        places = places.with(arc.place);
+        number = arc.next;
     }
     places
 }
@@ -242,11 +239,11 @@ impl Net for ChainedNet<'_> {
     ghost meaning = { λ n. record { net = chained_net n.file.now; law = chained_lawful n.file.now n.bytes n.sound } };
 
     fn places(&self) -> u8 {
-        byte_at(self.file, 0)
+        self.file[0]
     }
 
     fn steps(&self) -> u16 {
-        u16::from(byte_at(self.file, 1))
+        u16::from(self.file[1])
     }
 
     fn input(&self, step: u16) -> Option<u8> {

@@ -1,7 +1,8 @@
-use Rattle.std.proofs.Common.{◌-◌}
-use Rattle.formats.specs.Chained.{chained_arcs}
-use Rattle.nets.proofs.Walks.{Gathered}
+use Rattle.nets.proofs.Walks.{Gathered, left}
 use Rattle.nets.proofs.chained.chain_places.Given as goal
 
-abbrev pub invariant-loop-seen : goal.invariant-loop-seen
-invariant-loop-seen l = Gathered l.file l.first (chained_arcs l.file - l._seen) l.arc l.places
+abbrev pub invariant-loop-number : goal.invariant-loop-number
+invariant-loop-number l = Gathered l.file l.first l.number l.places
+
+abbrev pub decreases-loop-number : goal.decreases-loop-number
+decreases-loop-number l = left l.file l.number

@@ -1,37 +1,26 @@
-use Rattle.std.proofs.Common.{◌+◌, ◌-◌, ◌<◌, ◌≤◌, ◌∙◌, arith}
-use Rattle.formats.specs.Chained.{chained_arcs, arc_place}
-use Rattle.formats.proofs.Chains.{chain_end}
-use Rattle.formats.proofs.ChainedLaw.{each_arc_fits}
-use Rattle.nets.proofs.Walks.{place_below, chain_done, written_none, written_all, written_more}
+use Rattle.std.proofs.Common.{◌<◌, ◌∙◌, arith}
+use Rattle.formats.specs.Chained.{arc_place}
+use Rattle.nets.proofs.Walks.{place_below, left_less, written_none, written_more}
 use Rattle.nets.proofs.chained.chain_yields.Goals as goal
 
-pub loop-seen-init : goal.loop-seen-init
-loop-seen-init c = written_none _ _ _ _ c.requires.inside (omega arith) c.from-arc.ensures
-
-pub returns-then-arc-eq0 : goal.returns-then-arc-eq0
-returns-then-arc-eq0 c =
-    written_all _ _ _ _ _ c.loop-seen.invariant (λ p. chain_end _ _ _ p c.if-arc-eq0.true)
+pub loop-number-init : goal.loop-number-init
+loop-number-init c = written_none _ _ c.requires.inside
 
 pub bounds-weights-from : goal.bounds-weights-from
 bounds-weights-from c =
-    let below = place_below c.args.file.now (λ i. omega (arith, c.type_inv.file i)) c.requires.accepted c.loop-seen.arc
-    (omega (arith, c.if-arc-eq0.false)) c.loop-seen.invariant.inside in
-    omega (arith, below, c.place_of.ensures, c.from.ensures)
+    let below = place_below c.args.file.now (λ i. omega (arith, c.type_inv.file i)) c.requires.accepted c.loop-number.number
+    (omega (arith, c.loop-number-test.true)) c.loop-number.invariant.inside in
+    omega (arith, below, c.arc_at-arc.ensures.place, c.from.ensures)
 
-pub loop-seen-preserved : goal.loop-seen-preserved
-loop-seen-preserved c =
+pub loop-number-smaller : goal.loop-number-smaller
+loop-number-smaller c =
+    left_less c.args.file.now c.requires.accepted c.loop-number.number c.arc_at-arc.result.next (omega (arith, c.loop-number-test.true)) c.loop-number.invariant.inside c.arc_at-arc.ensures.next
+
+pub loop-number-preserved : goal.loop-number-preserved
+loop-number-preserved c =
     let file = c.args.file.now in
-    let some : 0 < c.loop-seen.arc = omega (arith, c.if-arc-eq0.false) in
-    let inside : c.loop-seen.arc ≤ chained_arcs file = c.loop-seen.invariant.inside in
-    let below : arc_place file c.loop-seen.arc < 64 = place_below file (λ i. omega (arith, c.type_inv.file i)) c.requires.accepted c.loop-seen.arc some inside in
-    written_more _ _ (chained_arcs file - c.loop-seen._seen) _ _ c.loop-seen.invariant
-    (each_arc_fits file c.requires.accepted c.loop-seen.arc some inside)
-    (omega (arith, c.loop-seen-test.true, c.arcs-seen-end.ensures)) some (chained_arcs file - (c.loop-seen._seen + 1)) _ _ _ (omega arith)
-    (c.from-arc-in-loop-seen.ensures ∙ c.next_of.ensures) (c.from.ensures ∙ c.place_of.ensures) c.weight_of.ensures
-    (omega (arith, below, c.place_of.ensures, c.from.ensures))
-
-pub returns : goal.returns
-returns c =
-    let A = chained_arcs c.args.file.now in
-    written_all _ _ (A - c.loop-seen._seen) _ _ c.loop-seen.invariant
-    (λ p. chain_done c.args.file.now (A - c.loop-seen._seen) c.loop-seen.arc p (omega (arith, c.arcs-seen-end.ensures, c.loop-seen-test.false)))
+    let some : 0 < c.loop-number.number = omega (arith, c.loop-number-test.true) in
+    let below : arc_place file c.loop-number.number < 64 = place_below file (λ i. omega (arith, c.type_inv.file i)) c.requires.accepted c.loop-number.number some c.loop-number.invariant.inside in
+    written_more _ _ _ _ c.loop-number.invariant c.requires.accepted some _ _ _
+    c.arc_at-arc.ensures.next (c.from.ensures ∙ c.arc_at-arc.ensures.place) c.arc_at-arc.ensures.weight
+    (omega (arith, below, c.arc_at-arc.ensures.place, c.from.ensures))
