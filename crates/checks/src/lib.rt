@@ -47,7 +47,7 @@ pub fn check_rows<N: Net>(net: &N, tally: &[u16], target: Target<'_>) -> Result<
 }
 
 /// The kind of the target of a resume, or the refusal of the first size check that fails. The caller says how many
-/// blocks the tally yields, since it knows what the tally moves at each place.
+/// blocks the tally yields, since it needs the flow of the tally anyhow.
 pub fn check_sizes<N: Net>(
     net: &N,
     spare: u32,

@@ -6,7 +6,7 @@ ghost use Rattle.theory.specs.Rows.{at};
 ghost use Rattle.theory.specs.Tallies.{spent, gained, final_number};
 ghost use Rattle.theory.specs.Tests.{least, is_short};
 
-use crate::moved::Moved;
+use crate::flow::Flow;
 use answers::Kind;
 use nets::net::Net;
 use searches::least_below;
@@ -19,32 +19,32 @@ pub struct Asked<'a, N: Net> {
     pub tally: &'a [u16],
     pub target: &'a [u32],
     pub kind: Kind,
-    moved: &'a Moved<'a, N>,
-    ghost same_net: { moved.now.net.now ≡ net.now },
-    ghost same_tally: { moved.now.tally.now ≡ tally.now },
+    flow: &'a Flow<'a, N>,
+    ghost same_net: { flow.now.net.now ≡ net.now },
+    ghost same_tally: { flow.now.tally.now ≡ tally.now },
 }
 
 impl<'a, N: Net> Asked<'a, N> {
-    /// Asks the tally of the net, by what it moves.
+    /// Asks a tally of a net, by its flow.
     pub fn new(
-        moved: &'a Moved<'a, N>,
+        flow: &'a Flow<'a, N>,
         counts: &'a [u32],
         target: &'a [u32],
         kind: Kind,
     ) -> Asked<'a, N>
-        ensures net { result.net.now ≡ moved.now.net.now }
+        ensures net { result.net.now ≡ flow.now.net.now }
         ensures counts { result.counts.now ≡ counts.now }
-        ensures tally { result.tally.now ≡ moved.now.tally.now }
+        ensures tally { result.tally.now ≡ flow.now.tally.now }
         ensures target { result.target.now ≡ target.now }
         ensures kind { result.kind ≡ kind }
     {
         Asked {
-            net: moved.net,
+            net: flow.net,
             counts,
-            tally: moved.tally,
+            tally: flow.tally,
             target,
             kind,
-            moved,
+            flow,
         }
     }
 
@@ -52,7 +52,7 @@ impl<'a, N: Net> Asked<'a, N> {
     fn spent(&self, place: u8) -> u32
         ensures { result ≡ spent (N.meaning self.now.net.now).net (at self.now.tally.now) place }
     {
-        self.moved.spent(place)
+        self.flow.spent(place)
     }
 
     /// The blocks that the place has and gains.
@@ -61,7 +61,7 @@ impl<'a, N: Net> Asked<'a, N> {
         ensures bound { result < 2 ^ 49 }
     {
         let has = self.counts.get(usize::from(place)).copied().unwrap_or(0);
-        u64::from(has) + u64::from(self.moved.gained(place))
+        u64::from(has) + u64::from(self.flow.gained(place))
     }
 
     /// The blocks that the target wants at the place; 0 past its end.

@@ -1,7 +1,7 @@
 //! Totals and final numbers of small nets, worked out by hand.
 use crate::asked::{done_total, steps_asked, yields_of};
 use crate::finals::Asked;
-use crate::moved::Moved;
+use crate::flow::Flow;
 use answers::Kind;
 use nets::grid::GridNet;
 use std::process::Abort;
@@ -22,11 +22,11 @@ fn tripler<'a>(rt: &impl Abort, file: &'a [u8]) -> Result<(), Fail> {
         (yields_of(&net, 0), yields_of(&net, 1), yields_of(&net, 2)),
         (3, 1, 0)
     );
-    let moved = Moved::by(&net, &tally);
-    assert_eq!(rt; moved.yields_asked(), 10);
-    assert_eq!(rt; (moved.spent(0), moved.gained(0)), (2, 4));
-    assert_eq!(rt; (moved.spent(1), moved.gained(1)), (4, 6));
-    assert_eq!(rt; (moved.spent(2), moved.gained(2)), (0, 0));
+    let flow = Flow::of(&net, &tally);
+    assert_eq!(rt; flow.yields_asked(), 10);
+    assert_eq!(rt; (flow.spent(0), flow.gained(0)), (2, 4));
+    assert_eq!(rt; (flow.spent(1), flow.gained(1)), (4, 6));
+    assert_eq!(rt; (flow.spent(2), flow.gained(2)), (0, 0));
     Ok(())
 }
 
@@ -34,16 +34,16 @@ fn detour<'a>(rt: &impl Abort, file: &'a [u8]) -> Result<(), Fail> {
     let mut net: GridNet<'a> = GridNet::new();
     net.load(file)?;
     let (counts, tally) = ([1, 0, 0], [0, 1, 2]);
-    let moved = Moved::by(&net, &tally);
-    let at_least = Asked::new(&moved, &counts, &[0, 0, 0], Kind::AtLeast);
+    let flow = Flow::of(&net, &tally);
+    let at_least = Asked::new(&flow, &counts, &[0, 0, 0], Kind::AtLeast);
     final_numbers(rt, &at_least)?;
     assert_eq!(rt;
         (at_least.least_missed(), at_least.missed_by(1)),
         (Some(1), -1)
     );
-    let exact = Asked::new(&moved, &counts, &[0, 0, 0], Kind::Exact);
+    let exact = Asked::new(&flow, &counts, &[0, 0, 0], Kind::Exact);
     assert_eq!(rt; (exact.least_missed(), exact.missed_by(0)), (Some(0), 2));
-    let met = Asked::new(&moved, &counts, &[2, 0, 0], Kind::Exact);
+    let met = Asked::new(&flow, &counts, &[2, 0, 0], Kind::Exact);
     assert_eq!(rt; met.is_missed(2), false);
     Ok(())
 }

@@ -1,4 +1,4 @@
-//! What a tally moves: what its steps take from each place of a net and put down there.
+//! The flow of a tally: what its steps take from each place of a net and put down there.
 ghost use Rattle.std.specs.Prelude.{◌≡◌, ℕ, ◌^◌, ◌<◌};
 ghost use Rattle.answers.specs.States.{yields_asked};
 ghost use Rattle.theory.specs.Rows.{at};
@@ -10,7 +10,7 @@ use nets::net::{MOST_PLACES, Net};
 
 /// A tally of a net, with the blocks that its steps take from each place and put down there.
 #[derive(Drop)]
-pub struct Moved<'a, N: Net> {
+pub struct Flow<'a, N: Net> {
     pub net: &'a N,
     pub tally: &'a [u16],
     // Found once for all places, since most calls ask of each place.
@@ -20,13 +20,13 @@ pub struct Moved<'a, N: Net> {
     ghost gained: { (p : ℕ) → at gained_at p ≡ gained (N.meaning net.now).net (at tally.now) p },
 }
 
-impl<'a, N: Net> Moved<'a, N> {
-    /// What the steps of the tally move.
-    pub fn by(net: &'a N, tally: &'a [u16]) -> Moved<'a, N>
+impl<'a, N: Net> Flow<'a, N> {
+    /// The flow of the tally in the net.
+    pub fn of(net: &'a N, tally: &'a [u16]) -> Flow<'a, N>
         ensures net { result.net.now ≡ net.now }
         ensures tally { result.tally.now ≡ tally.now }
     {
-        Moved {
+        Flow {
             net,
             tally,
             spent_at: spent_by_place(net, tally),

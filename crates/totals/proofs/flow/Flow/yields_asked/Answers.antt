@@ -3,7 +3,7 @@ use Rattle.theory.specs.Rows.{at}
 use Rattle.theory.specs.Sums.{sum_to}
 use Rattle.theory.specs.Tallies.{gained}
 use Rattle.totals.proofs.Yielded.{gained_in_all}
-use Rattle.totals.proofs.moved.Moved.yields_asked.Goals as goal
+use Rattle.totals.proofs.flow.Flow.yields_asked.Goals as goal
 
 pub returns-clause-answer : goal.returns-clause-answer
 returns-clause-answer g c =
