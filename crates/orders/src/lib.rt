@@ -18,6 +18,7 @@ use nets::net::Net;
 use refusals::Refusal;
 use schedules::schedule::Schedule;
 use totals::finals::Asked;
+use totals::flow::Flow;
 
 /// Fires the first order of the tally on the board and writes it from the front of the memory, where
 /// the sizes fit and some order of the tally meets the target; answers the order's length. `done`
@@ -32,9 +33,19 @@ pub fn fire_tally<N: Net, B: Board>(
 ) -> Result<usize, Refusal>
     ensures { Fired (N.meaning net.now).net (held (B.counts board.old) (B.spare board.old) done.now) tally.now (target_of target.entry.numbers.now target.entry.kind) memory.old result (B.counts board.new) (B.spare board.new) memory.new }
 {
-    let kind = check_sizes(net, board.spare(), done, tally, target, memory.len())?;
+    let flow = Flow::of(net, tally);
+    let yielded = flow.yields_asked();
+    let kind = check_sizes(
+        net,
+        board.spare(),
+        done,
+        tally,
+        yielded,
+        target,
+        memory.len(),
+    )?;
     let counts = all_counts(board);
-    let asked = Asked::new(net, &counts, tally, target.numbers, kind);
+    let asked = Asked::new(&flow, &counts, target.numbers, kind);
     check_causes(&asked)?;
     let mut schedule = Schedule::new(net, &counts, tally);
     Ok(fire_first_order(net, board, &mut schedule, tally, memory))

@@ -17,6 +17,7 @@ use nets::net::Net;
 use reached::cut_off::cut_off_places;
 use refusals::Refusal;
 use totals::finals::Asked;
+use totals::flow::Flow;
 
 /// Lists every short place, then every cut-off place, then every missed place, each by rising place,
 /// from the front of the memory, and answers how many. `done` has the steps done before, which
@@ -34,7 +35,8 @@ pub fn list_findings<'a, N: Net, B: Board>(
 {
     let kind = check_survey(net, done, tally, target, memory.len())?;
     let counts = all_counts(board);
-    let asked = Asked::new(net, &counts, tally, target.numbers, kind);
+    let flow = Flow::of(net, tally);
+    let asked = Asked::new(&flow, &counts, target.numbers, kind);
     let places = u16::from(net.places());
     let cut_off = cut_off_places(net, &counts, tally);
     let mut findings = BoundedList::new(memory);

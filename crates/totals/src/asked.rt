@@ -1,6 +1,6 @@
 //! What a tally asks of a net in all: steps and yields.
 ghost use Rattle.std.specs.Prelude.{◌≡◌, ◌^◌, ◌<◌};
-ghost use Rattle.answers.specs.States.{yields_of, yields_asked};
+ghost use Rattle.answers.specs.States.{yields_of};
 ghost use Rattle.theory.specs.Rows.{at};
 ghost use Rattle.theory.specs.Sums.{sum_to};
 ghost use Rattle.theory.specs.Tallies.{steps_asked};
@@ -45,15 +45,4 @@ pub fn yields_of<N: Net>(net: &N, step: u16) -> u32
         sum += u32::from(*blocks);
     }
     sum
-}
-
-/// All blocks that the steps of the tally yield.
-pub fn yields_asked<N: Net>(net: &N, tally: &[u16]) -> u64
-    ensures answer { result ≡ yields_asked (N.meaning net.now).net (at tally.now) }
-    ensures bound { result < 2 ^ 48 }
-{
-    sum_below(net.steps(), |step| match times(tally, step) {
-        0 => 0,
-        times => u32::from(times) * yields_of(net, step),
-    })
 }

@@ -6,9 +6,9 @@ ghost use Rattle.theory.specs.Rows.{at};
 ghost use Rattle.theory.specs.Tallies.{spent, gained, final_number};
 ghost use Rattle.theory.specs.Tests.{least, is_short};
 
-use crate::by_place::{gained_by_place, spent_by_place};
+use crate::flow::Flow;
 use answers::Kind;
-use nets::net::{MOST_PLACES, Net};
+use nets::net::Net;
 use searches::least_below;
 
 /// A tally asked of a net, with the blocks at its places and the target that it is to meet.
@@ -19,36 +19,32 @@ pub struct Asked<'a, N: Net> {
     pub tally: &'a [u16],
     pub target: &'a [u32],
     pub kind: Kind,
-    // Found once for all places, since most calls ask of each place.
-    spent_at: [u32; MOST_PLACES],
-    gained_at: [u32; MOST_PLACES],
-    ghost spent: { (p : ℕ) → at spent_at p ≡ spent (N.meaning net.now).net (at tally.now) p },
-    ghost gained: { (p : ℕ) → at gained_at p ≡ gained (N.meaning net.now).net (at tally.now) p },
+    flow: &'a Flow<'a, N>,
+    ghost same_net: { flow.now.net.now ≡ net.now },
+    ghost same_tally: { flow.now.tally.now ≡ tally.now },
 }
 
 impl<'a, N: Net> Asked<'a, N> {
-    /// Asks the tally of the net.
+    /// Asks a tally of a net, by its flow.
     pub fn new(
-        net: &'a N,
+        flow: &'a Flow<'a, N>,
         counts: &'a [u32],
-        tally: &'a [u16],
         target: &'a [u32],
         kind: Kind,
     ) -> Asked<'a, N>
-        ensures net { result.net.now ≡ net.now }
+        ensures net { result.net.now ≡ flow.now.net.now }
         ensures counts { result.counts.now ≡ counts.now }
-        ensures tally { result.tally.now ≡ tally.now }
+        ensures tally { result.tally.now ≡ flow.now.tally.now }
         ensures target { result.target.now ≡ target.now }
         ensures kind { result.kind ≡ kind }
     {
         Asked {
-            net,
+            net: flow.net,
             counts,
-            tally,
+            tally: flow.tally,
             target,
             kind,
-            spent_at: spent_by_place(net, tally),
-            gained_at: gained_by_place(net, tally),
+            flow,
         }
     }
 
@@ -56,7 +52,7 @@ impl<'a, N: Net> Asked<'a, N> {
     fn spent(&self, place: u8) -> u32
         ensures { result ≡ spent (N.meaning self.now.net.now).net (at self.now.tally.now) place }
     {
-        self.spent_at.get(usize::from(place)).copied().unwrap_or(0)
+        self.flow.spent(place)
     }
 
     /// The blocks that the place has and gains.
@@ -65,8 +61,7 @@ impl<'a, N: Net> Asked<'a, N> {
         ensures bound { result < 2 ^ 49 }
     {
         let has = self.counts.get(usize::from(place)).copied().unwrap_or(0);
-        let gains = self.gained_at.get(usize::from(place)).copied().unwrap_or(0);
-        u64::from(has) + u64::from(gains)
+        u64::from(has) + u64::from(self.flow.gained(place))
     }
 
     /// The blocks that the target wants at the place; 0 past its end.

@@ -4,6 +4,7 @@
 pub mod asked;
 pub mod by_place;
 pub mod finals;
+pub mod flow;
 pub mod sums;
 #[cfg(test)]
 mod tests;

@@ -1,7 +1,7 @@
 //! Totals and final numbers of small nets, worked out by hand.
-use crate::asked::{done_total, steps_asked, yields_asked, yields_of};
-use crate::by_place::{gained_by_place, spent_by_place};
+use crate::asked::{done_total, steps_asked, yields_of};
 use crate::finals::Asked;
+use crate::flow::Flow;
 use answers::Kind;
 use nets::grid::GridNet;
 use std::process::Abort;
@@ -22,12 +22,11 @@ fn tripler<'a>(rt: &impl Abort, file: &'a [u8]) -> Result<(), Fail> {
         (yields_of(&net, 0), yields_of(&net, 1), yields_of(&net, 2)),
         (3, 1, 0)
     );
-    assert_eq!(rt; yields_asked(&net, &tally), 10);
-    let spent = spent_by_place(&net, &tally);
-    let gained = gained_by_place(&net, &tally);
-    assert_eq!(rt; (spent[0], gained[0]), (2, 4));
-    assert_eq!(rt; (spent[1], gained[1]), (4, 6));
-    assert_eq!(rt; (spent[2], gained[2]), (0, 0));
+    let flow = Flow::of(&net, &tally);
+    assert_eq!(rt; flow.yields_asked(), 10);
+    assert_eq!(rt; (flow.spent(0), flow.gained(0)), (2, 4));
+    assert_eq!(rt; (flow.spent(1), flow.gained(1)), (4, 6));
+    assert_eq!(rt; (flow.spent(2), flow.gained(2)), (0, 0));
     Ok(())
 }
 
@@ -35,15 +34,16 @@ fn detour<'a>(rt: &impl Abort, file: &'a [u8]) -> Result<(), Fail> {
     let mut net: GridNet<'a> = GridNet::new();
     net.load(file)?;
     let (counts, tally) = ([1, 0, 0], [0, 1, 2]);
-    let at_least = Asked::new(&net, &counts, &tally, &[0, 0, 0], Kind::AtLeast);
+    let flow = Flow::of(&net, &tally);
+    let at_least = Asked::new(&flow, &counts, &[0, 0, 0], Kind::AtLeast);
     final_numbers(rt, &at_least)?;
     assert_eq!(rt;
         (at_least.least_missed(), at_least.missed_by(1)),
         (Some(1), -1)
     );
-    let exact = Asked::new(&net, &counts, &tally, &[0, 0, 0], Kind::Exact);
+    let exact = Asked::new(&flow, &counts, &[0, 0, 0], Kind::Exact);
     assert_eq!(rt; (exact.least_missed(), exact.missed_by(0)), (Some(0), 2));
-    let met = Asked::new(&net, &counts, &tally, &[2, 0, 0], Kind::Exact);
+    let met = Asked::new(&flow, &counts, &[2, 0, 0], Kind::Exact);
     assert_eq!(rt; met.is_missed(2), false);
     Ok(())
 }

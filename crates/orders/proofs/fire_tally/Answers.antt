@@ -40,8 +40,8 @@ returns-in_err-check_causes g c =
     let cause =
     causes_as_asked N H R a.done.now tally a.target.numbers.now a.target.kind (length memory)
     (g.N.Net.meaning q.net.now).net q.counts.now q.tally.now q.target.now c.in_ok-kind.kind q.kind
-    (ap (λ z. (g.N.Net.meaning z).net) c.new-asked.ensures.net) (λ p. ap (λ z. at z p) c.new-asked.ensures.counts ∙ c.all_counts-counts.ensures.answer p)
-    c.new-asked.ensures.tally c.new-asked.ensures.target c.new-asked.ensures.kind checked.1
+    (ap (λ z. (g.N.Net.meaning z).net) (c.new-asked.ensures.net ∙ c.of-flow.ensures.net)) (λ p. ap (λ z. at z p) c.new-asked.ensures.counts ∙ c.all_counts-counts.ensures.answer p)
+    (c.new-asked.ensures.tally ∙ c.of-flow.ensures.tally) c.new-asked.ensures.target c.new-asked.ensures.kind checked.1
     (Some e) (refused_with _ tt e c.in_err-check_causes.ensures) in
     let said : c.from_residual-in_err-check_causes.result ≡ Err e = search rules in
     refused_tally N (held H R a.done.now) tally T memory e c.from_residual-in_err-check_causes.result said
@@ -61,8 +61,8 @@ fire_first_order-requires g c =
     let none =
     accepted_as_asked N.net H R a.done.now a.tally.now a.target.numbers.now a.target.kind memory
     (g.N.Net.meaning q.net.now).net q.counts.now q.tally.now q.target.now c.in_ok-kind.kind q.kind
-    (ap (λ z. (g.N.Net.meaning z).net) c.new-asked.ensures.net) (λ p. ap (λ z. at z p) c.new-asked.ensures.counts ∙ c.all_counts-counts.ensures.answer p)
-    c.new-asked.ensures.tally c.new-asked.ensures.target c.new-asked.ensures.kind checked.1
+    (ap (λ z. (g.N.Net.meaning z).net) (c.new-asked.ensures.net ∙ c.of-flow.ensures.net)) (λ p. ap (λ z. at z p) c.new-asked.ensures.counts ∙ c.all_counts-counts.ensures.answer p)
+    (c.new-asked.ensures.tally ∙ c.of-flow.ensures.tally) c.new-asked.ensures.target c.new-asked.ensures.kind checked.1
     c.spare.result c.spare.ensures.answer checked.0 (accepted_with _ tt tt c.in_ok-check_causes.ensures) in
     let fits = fits_now N.net N.law s a.tally.now T memory none in
     record {
@@ -83,8 +83,8 @@ returns g c =
     let none =
     accepted_as_asked N H R a.done.now a.tally.now a.target.numbers.now a.target.kind (length a.memory.now)
     (g.N.Net.meaning q.net.now).net q.counts.now q.tally.now q.target.now c.in_ok-kind.kind q.kind
-    (ap (λ z. (g.N.Net.meaning z).net) c.new-asked.ensures.net) (λ p. ap (λ z. at z p) c.new-asked.ensures.counts ∙ c.all_counts-counts.ensures.answer p)
-    c.new-asked.ensures.tally c.new-asked.ensures.target c.new-asked.ensures.kind checked.1
+    (ap (λ z. (g.N.Net.meaning z).net) (c.new-asked.ensures.net ∙ c.of-flow.ensures.net)) (λ p. ap (λ z. at z p) c.new-asked.ensures.counts ∙ c.all_counts-counts.ensures.answer p)
+    (c.new-asked.ensures.tally ∙ c.of-flow.ensures.tally) c.new-asked.ensures.target c.new-asked.ensures.kind checked.1
     c.spare.result c.spare.ensures.answer checked.0 (accepted_with _ tt tt c.in_ok-check_causes.ensures) in
     let fired = c.fire_first_order in
     let b' = fired.new.board in
