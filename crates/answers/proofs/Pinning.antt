@@ -15,6 +15,7 @@ use Rattle.answers.specs.Reasons.{Among, Rising, Exactly, AllFound}
 use Rattle.answers.specs.Pinned.{ComesExactly, Pinned}
 use Rattle.answers.proofs.Leading.{leads_same}
 use Rattle.answers.proofs.Promised.{promise}
+use Rattle.answers.proofs.Transcripts.{one_transcript}
 
 -- two that come exactly when the same says so are the same
 one_refusal : (Fits : Type 0) (Why : Refusal → Type 0) (r q : Option Refusal) → ComesExactly Fits Why r → ComesExactly Fits Why q → r ≡ q
@@ -82,5 +83,6 @@ pinned N law s =
           one_first order (the_order N s tally) (before (the_order N s tally) w.0) (w.1 order such);
       findings_listed = λ tally target memory h list f.
           found_one N s.counts (at tally) target list (findings N s.counts (at tally) target) f (p.finds_all tally target memory h);
+      transcript_said = one_transcript N s;
       state_left = λ order a b. leads_same N s a b order;
     }

@@ -24,6 +24,7 @@ use Rattle.answers.proofs.Resumes.{fits_now, such_now, later_now, long_now, acce
 use Rattle.answers.proofs.Leading.{at_past, yields_is, call_leads}
 use Rattle.answers.proofs.AsFires.{resume_as_fires}
 use Rattle.answers.proofs.Surveys.{finds_all, few_findings}
+use Rattle.answers.proofs.Transcripts.{transcript}
 use Rattle.answers.proofs.Histories.{calls_lead, calls_done, Within, new_within, calls_within, sum_past, blocks_stay, outside_stays}
 
 -- IN ANY STATE
@@ -222,6 +223,7 @@ module _ (N : NetMeaning) (law : NetLaw N) (start : State) (new : New start) (ca
 
   any_calls : AfterCalls N start calls
   any_calls = record {
+    transcript = transcript N start calls;
     counts_accepted_work = λ t. omega (arith, calls_done N start calls t, new t);
     history_leads = leads;
     history_counts = a_run;
