@@ -4,12 +4,12 @@ use Rattle.refusals.specs.declared.Refusal.{Refusal}
 use Rattle.theory.specs.Sums.{sum_to}
 use Rattle.theory.specs.Nets.{NetMeaning, NetLaw}
 use Rattle.theory.specs.Rows.{at}
-use Rattle.theory.specs.Firing.{CanFire, after, times}
+use Rattle.theory.specs.Firing.{Marking, CanFire, after, times}
 use Rattle.theory.specs.Tallies.{steps_asked, Realizes}
 use Rattle.theory.specs.Orders.{Earlier}
 use Rattle.theory.specs.Laws.{AgreeBelow}
 use Rattle.answers.specs.declared.Finding.{Finding}
-use Rattle.answers.specs.States.{State, New, Target, exact, done_total, done_limit, yields_asked}
+use Rattle.answers.specs.States.{State, New, new_on, Target, exact, done_total, done_limit, yields_asked}
 use Rattle.answers.specs.Answers.{fire_refusal, fire_answer, size_refusal, resume_refusal, the_order, resume_answer, order_memory}
 use Rattle.answers.specs.Findings.{findings, survey_refusal, survey_answer, findings_memory}
 use Rattle.answers.specs.Calls.{Call, Answer, refusal_of, fired_by, after_call, answer_to, after_calls, answers_to, history, accepted_times, fires, yields_in}
@@ -52,6 +52,14 @@ AllAccepted N s (c ∷ cs) = (refusal_of N s c ≡ None) × AllAccepted N (after
 pub record AsFires (N : NetMeaning) (s : State) (tally : List ℕ) (target : Target) (memory : ℕ) : Type 0 where
   pub none_refused : AllAccepted N s (fires (the_order N s tally))
   pub same_state : SameState (after_calls N s (fires (the_order N s tally))) (after_call N s (resume tally target memory))
+
+-- WHAT A NEW SITTING HOLDS
+
+-- a new sitting on a board with these counts and this spare: it holds these, and it has done no step
+pub record NewOn (counts : Marking) (spare : ℕ) (s : State) : Type 0 where
+  pub same_counts : (p : ℕ) → s.counts p ≡ counts p
+  pub same_spare : s.spare ≡ spare
+  pub nothing_done : (t : ℕ) → s.done t ≡ 0
 
 -- WHAT HOLDS IN ANY STATE
 
@@ -161,7 +169,8 @@ pub record AfterCalls (N : NetMeaning) (start : State) (calls : List Call) : Typ
       HandOver N start (after_calls N start calls) other tally numbers memory →
       Replayed N start (after_calls N start calls) other tally numbers memory
 
--- for every lawful net, every sitting, and every list of calls on a new one
+-- for every board a new sitting; for every lawful net, every sitting, and every list of calls on a new one
 pub record Promise : Type 0 where
+  pub new_sittings : (counts : Marking) (spare : ℕ) → NewOn counts spare (new_on counts spare)
   pub in_any_state : (N : NetMeaning) → NetLaw N → (s : State) → InAnyState N s
   pub after_any_calls : (N : NetMeaning) → NetLaw N → (start : State) → New start → (calls : List Call) → AfterCalls N start calls
