@@ -6,6 +6,7 @@ pub mod Leading
 pub mod AsFires
 pub mod Surveys
 pub mod Histories
+pub mod Transcripts
 pub mod Promised
 pub mod Pinning
 pub mod Unless

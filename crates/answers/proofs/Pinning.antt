@@ -1,20 +1,25 @@
 -- Whatever has the clauses of the promise is what the definitions give.
-use Rattle.std.proofs.Common.{◌≡◌, ℕ, ◌⊎◌, List, [], ◌∷◌, ◌++◌, map, Some, None, Option, sym, refl, ◌∙◌, ap₂, inl, inr, arith}
+use Rattle.std.proofs.Common.{◌≡◌, ℕ, ◌⊎◌, List, [], ◌∷◌, ◌++◌, ℤ, Some, None, Option, sym, refl, ap, ◌∙◌, ap₂, inl, inr, arith}
+use mathlib.Core.Path.{fun_ext}
+use Rattle.std.proofs.lemmas.Int.{ints}
 use Rattle.refusals.specs.declared.Refusal.{Refusal}
 use Rattle.theory.specs.Nets.{NetMeaning}
 use Rattle.theory.specs.Rows.{at}
 use Rattle.theory.specs.Firing.{Marking}
-use Rattle.theory.specs.Tallies.{Tally}
+use Rattle.theory.specs.Tallies.{Tally, final_number}
 use Rattle.theory.specs.Orders.{Earlier}
 use Rattle.theory.proofs.FirstOrder.{earlier_one_way}
+use Rattle.answers.specs.declared.Cause.{Cause}
+use Rattle.answers.specs.declared.Cause.TheVariants as cause
 use Rattle.answers.specs.declared.Finding.{Finding}
 use Rattle.answers.specs.States.{Target}
 use Rattle.answers.specs.Answers.{the_order, fire_refusal, resume_refusal}
-use Rattle.answers.specs.Findings.{findings, short_finding, cut_off_finding, missed_finding, survey_refusal}
-use Rattle.answers.specs.Reasons.{Among, Rising, Exactly, AllFound}
+use Rattle.answers.specs.Findings.{findings, survey_refusal}
+use Rattle.answers.specs.Reasons.{Among, Rising, Exactly, findings_at, AllFound}
 use Rattle.answers.specs.Pinned.{ComesExactly, Pinned}
 use Rattle.answers.proofs.Leading.{leads_same}
 use Rattle.answers.proofs.Promised.{promise}
+use Rattle.answers.proofs.Transcripts.{one_transcript}
 
 -- two that come exactly when the same says so are the same
 one_refusal : (Fits : Type 0) (Why : Refusal → Type 0) (r q : Option Refusal) → ComesExactly Fits Why r → ComesExactly Fits Why q → r ≡ q
@@ -51,13 +56,17 @@ found_one : (N : NetMeaning) (m : Marking) (x : Tally) (target : Target) (list o
     AllFound N m x target list → AllFound N m x target other → list ≡ other
 found_one N m x target list other f g =
     f.listed
-    ∙ ap₂ ◌++◌ (mapped_same (short_finding N m x) (exactly_one _ _ _ _ f.all_short g.all_short))
-    (ap₂ ◌++◌ (mapped_same cut_off_finding (exactly_one _ _ _ _ f.all_cut_off g.all_cut_off))
-    (mapped_same (missed_finding N m x target) (exactly_one _ _ _ _ f.all_missed g.all_missed)))
+    ∙ ap₂ ◌++◌ (same_at (λ p. cause.Short (final_number N m x p)) (exactly_one _ _ _ _ f.all_short g.all_short))
+    (ap₂ ◌++◌ (same_at (λ p. cause.CutOff) (exactly_one _ _ _ _ f.all_cut_off g.all_cut_off))
+    (same_at (λ p. cause.Missed (f.missed_number p)) (exactly_one _ _ _ _ f.all_missed g.all_missed)
+    ∙ ap (λ (h : ℕ → ℤ). findings_at (λ p. cause.Missed (h p)) g.missed_places) (fun_ext one_number)))
     ∙ sym g.listed
   where
-    mapped_same : (h : ℕ → Finding) {ps qs : List ℕ} → ps ≡ qs → map h ps ≡ map h qs
-    mapped_same h e = rw e
+    same_at : (h : ℕ → Cause) {ps qs : List ℕ} → ps ≡ qs → findings_at h ps ≡ findings_at h qs
+    same_at h e = ap (findings_at h) e
+
+    one_number : (p : ℕ) → f.missed_number p ≡ g.missed_number p
+    one_number p = omega (arith, ints, f.with_the_target p, g.with_the_target p)
 
 -- two orders, neither later than the other, are the same
 one_first : (a b : List ℕ) → (a ≡ b) ⊎ Earlier a b → (b ≡ a) ⊎ Earlier b a → a ≡ b
@@ -82,5 +91,6 @@ pinned N law s =
           one_first order (the_order N s tally) (before (the_order N s tally) w.0) (w.1 order such);
       findings_listed = λ tally target memory h list f.
           found_one N s.counts (at tally) target list (findings N s.counts (at tally) target) f (p.finds_all tally target memory h);
+      transcript_said = one_transcript N s;
       state_left = λ order a b. leads_same N s a b order;
     }

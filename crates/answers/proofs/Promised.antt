@@ -6,25 +6,31 @@ use Rattle.refusals.specs.declared.Refusal.{Refusal}
 use Rattle.theory.specs.Sums.{sum_to}
 use Rattle.theory.specs.Nets.{NetMeaning, NetLaw}
 use Rattle.theory.specs.Rows.{at}
-use Rattle.theory.specs.Firing.{one_at, after}
+use Rattle.theory.specs.Firing.{Marking, one_at, after}
 use Rattle.theory.specs.Tallies.{steps_asked, Realizes}
 use Rattle.theory.proofs.SumLaws.{sum_to_same, sum_to_none}
 use Rattle.theory.proofs.Realized.{leaves, length_is}
 use Rattle.theory.proofs.Decided.{some_none}
 use Rattle.theory.proofs.Exchanging.{agreeing_exchanged}
-use Rattle.answers.specs.States.{State, New, Target, exact, done_total, done_limit, yields_of, yields_asked}
+use Rattle.answers.specs.States.{State, New, new_on, Target, exact, done_total, done_limit, yields_of, yields_asked}
 use Rattle.refusals.specs.Answered.{answered}
 use Rattle.answers.specs.Answers.{unless, written, fire_refusal, resume_refusal, the_order, after_resume}
 use Rattle.answers.specs.Findings.{survey_refusal, findings}
 use Rattle.answers.specs.Calls.{Call, refusal_of, order_of, fired_by, after_call, accepted_answer, said, answer_to, after_calls, history, yields_in}
 use Rattle.answers.specs.Calls.Call.{fire, resume, survey}
-use Rattle.answers.specs.Promise.{Leads, Says, Writes, InAnyState, HandOver, Replayed, AfterCalls, Promise}
+use Rattle.answers.specs.Promise.{NewOn, Leads, Says, Writes, InAnyState, HandOver, Replayed, AfterCalls, Promise}
 use Rattle.answers.proofs.Sizes.{fire_fits, fits_fire, why_fire, fire_why, size_fits, survey_fits, fits_survey, why_survey, survey_why}
 use Rattle.answers.proofs.Resumes.{fits_now, such_now, later_now, long_now, accepts, why_resume, resume_why}
 use Rattle.answers.proofs.Leading.{at_past, yields_is, call_leads}
 use Rattle.answers.proofs.AsFires.{resume_as_fires}
 use Rattle.answers.proofs.Surveys.{finds_all, few_findings}
+use Rattle.answers.proofs.Transcripts.{transcript}
 use Rattle.answers.proofs.Histories.{calls_lead, calls_done, Within, new_within, calls_within, sum_past, blocks_stay, outside_stays}
+
+-- A NEW SITTING
+
+new_sittings : (counts : Marking) (spare : ℕ) → NewOn counts spare (new_on counts spare)
+new_sittings counts spare = record { same_counts = λ p. refl; same_spare = refl; nothing_done = λ t. refl }
 
 -- IN ANY STATE
 
@@ -222,6 +228,7 @@ module _ (N : NetMeaning) (law : NetLaw N) (start : State) (new : New start) (ca
 
   any_calls : AfterCalls N start calls
   any_calls = record {
+    transcript = transcript N start calls;
     counts_accepted_work = λ t. omega (arith, calls_done N start calls t, new t);
     history_leads = leads;
     history_counts = a_run;
@@ -233,4 +240,4 @@ module _ (N : NetMeaning) (law : NetLaw N) (start : State) (new : New start) (ca
   }
 
 pub promise : Promise
-promise = record { in_any_state = any_state; after_any_calls = any_calls }
+promise = record { new_sittings = new_sittings; in_any_state = any_state; after_any_calls = any_calls }

@@ -1,9 +1,11 @@
 -- A survey lists a finding exactly where there is one, in its group and by rising place.
-use Rattle.std.proofs.Common.{◌≡◌, ℕ, zero, suc, ◌+◌, ◌<◌, ◌≤◌, Bool, true, false, cond, ◌⊎◌, List, [], ◌∷◌, ◌++◌, map, length, Decides, sym, refl, ap, ◌∙◌, subst, ap₂, inl, inr, arith}
+use Rattle.std.proofs.Common.{◌≡◌, ℕ, zero, suc, ◌+◌, ◌<◌, ◌≤◌, Bool, true, false, cond, ◌⊎◌, List, [], ◌∷◌, ◌++◌, map, length, pos, ◌-ℤ◌, Decides, sym, refl, ap, ◌∙◌, subst, ap₂, inl, inr, arith}
 use Rattle.std.proofs.lemmas.Bool.{cases_eq, both_ways}
+use Rattle.std.proofs.lemmas.Int.{ints}
 use Rattle.theory.specs.Nets.{NetMeaning, NetLaw}
 use Rattle.theory.specs.Firing.{Marking}
-use Rattle.theory.specs.Tallies.{Tally, IsCutOff}
+use Rattle.theory.specs.Rows.{at}
+use Rattle.theory.specs.Tallies.{Tally, final_number, IsCutOff}
 use Rattle.theory.specs.Tallies as theory
 use Rattle.theory.specs.Tests.{is_short, is_cut_off}
 use Rattle.theory.proofs.Decided.{short_decided, cut_off_decided}
@@ -138,6 +140,8 @@ module _ (N : NetMeaning) (law : NetLaw N) (m : Marking) (x : Tally) (target : T
     all_cut_off = exactly (is_cut_off N m x) (IsCutOff N m x) N.places (cut_off_decided N law.inputs_inside m x);
     all_missed = exactly (is_missed N m x target) (FinalMisses N m x target) N.places
         (λ p _. final_missed_decided N m x target p known);
+    missed_number = λ p. final_number N m x p -ℤ pos (at target.numbers p);
+    with_the_target = λ p. omega (arith, ints);
     listed = ap₂ ◌++◌ (found_is (is_short N m x) (short_finding N m x) N.places)
         (ap₂ ◌++◌ (found_is (is_cut_off N m x) cut_off_finding N.places)
         (found_is (is_missed N m x target) (missed_finding N m x target) N.places));

@@ -4,7 +4,7 @@ use Rattle.refusals.specs.declared.Refusal.{Refusal}
 use Rattle.refusals.specs.declared.Refusal.TheVariants.{RowsUnfit, DoneLimit, OrderMemoryShort, SpareShort, Short, CutOff, Missed, NoSuchStep, InputEmpty, ListFull}
 use Rattle.theory.specs.Nets.{NetMeaning}
 use Rattle.theory.specs.Rows.{at, row_of}
-use Rattle.theory.specs.Cases.{detour, doubler, lock}
+use Rattle.theory.specs.Cases.{detour, doubler, lock, two_rings}
 use Rattle.answers.specs.declared.Cause.TheVariants as cause
 use Rattle.answers.specs.declared.Finding.{Finding}
 use Rattle.answers.specs.States.{State, exact, at_least}
@@ -196,6 +196,43 @@ abbrev pub nothing_to_find : Case
 nothing_to_find =
     lists detour (1 ∷ 0 ∷ 0 ∷ []) (survey (1 ∷ 1 ∷ 1 ∷ []) (exact (0 ∷ 0 ∷ 1 ∷ [])) 192) nothing_done []
 
+-- TWO AT FAULT: THE EARLIER CHECK DECIDES
+
+abbrev pub an_empty_input_and_no_room : Case
+an_empty_input_and_no_room = says_no doubler (0 ∷ []) 0 (0 ∷ []) (fire 0) (InputEmpty 0)
+
+abbrev pub an_unknown_kind_and_too_many_steps : Case
+an_unknown_kind_and_too_many_steps =
+    says_no detour (1 ∷ 0 ∷ 0 ∷ []) 100 (65533 ∷ 0 ∷ 0 ∷ [])
+    (resume (1 ∷ 1 ∷ 1 ∷ []) (record { numbers = 0 ∷ 0 ∷ 1 ∷ []; kind = 2 }) 10) RowsUnfit
+
+abbrev pub too_many_steps_and_little_memory : Case
+too_many_steps_and_little_memory =
+    says_no detour (1 ∷ 0 ∷ 0 ∷ []) 100 (65533 ∷ 0 ∷ 0 ∷ []) (resume (1 ∷ 1 ∷ 1 ∷ []) (exact (0 ∷ 0 ∷ 1 ∷ [])) 2) DoneLimit
+
+abbrev pub little_spare_and_a_short_place : Case
+little_spare_and_a_short_place =
+    says_no detour (1 ∷ 0 ∷ 0 ∷ []) 2 nothing_done (resume (0 ∷ 1 ∷ 2 ∷ []) (at_least (0 ∷ 0 ∷ 0 ∷ [])) 10) SpareShort
+
+-- place 0 is cut off, place 1 is short and cut off
+abbrev pub a_short_place_behind_a_cut_off_one : Case
+a_short_place_behind_a_cut_off_one =
+    says_no detour (0 ∷ 0 ∷ 0 ∷ []) 100 nothing_done (resume (0 ∷ 0 ∷ 1 ∷ []) (exact (1 ∷ 0 ∷ 0 ∷ [])) 10) (Short 1)
+
+-- place 0 is missed, places 2 and 3 are cut off
+abbrev pub a_cut_off_place_behind_a_missed_one : Case
+a_cut_off_place_behind_a_missed_one =
+    says_no two_rings (1 ∷ 0 ∷ 0 ∷ 0 ∷ []) 100 (0 ∷ 0 ∷ 0 ∷ 0 ∷ 0 ∷ [])
+    (resume (0 ∷ 0 ∷ 1 ∷ 1 ∷ 0 ∷ []) (exact (0 ∷ 0 ∷ 0 ∷ 0 ∷ [])) 10) (CutOff 2)
+
+abbrev pub a_survey_of_a_tally_too_short_and_too_many_steps : Case
+a_survey_of_a_tally_too_short_and_too_many_steps =
+    says_no detour (1 ∷ 0 ∷ 0 ∷ []) 100 (65535 ∷ 0 ∷ 0 ∷ []) (survey (0 ∷ 1 ∷ []) (at_least (0 ∷ 0 ∷ 0 ∷ [])) 192) RowsUnfit
+
+abbrev pub a_survey_of_too_many_steps_with_little_memory : Case
+a_survey_of_too_many_steps_with_little_memory =
+    says_no detour (1 ∷ 0 ∷ 0 ∷ []) 100 (65533 ∷ 0 ∷ 0 ∷ []) (survey (0 ∷ 1 ∷ 2 ∷ []) (at_least (0 ∷ 0 ∷ 0 ∷ [])) 191) DoneLimit
+
 abbrev pub cases : List Case
 cases =
     the_detour_is_taken_first
@@ -226,6 +263,14 @@ cases =
     ∷ three_groups_by_rising_place
     ∷ missed_from_above
     ∷ nothing_to_find
+    ∷ an_empty_input_and_no_room
+    ∷ an_unknown_kind_and_too_many_steps
+    ∷ too_many_steps_and_little_memory
+    ∷ little_spare_and_a_short_place
+    ∷ a_short_place_behind_a_cut_off_one
+    ∷ a_cut_off_place_behind_a_missed_one
+    ∷ a_survey_of_a_tally_too_short_and_too_many_steps
+    ∷ a_survey_of_too_many_steps_with_little_memory
     ∷ []
 
 -- each case comes out as worked out by hand

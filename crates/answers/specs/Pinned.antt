@@ -6,10 +6,11 @@ use Rattle.theory.specs.Rows.{at}
 use Rattle.theory.specs.Orders.{Earlier}
 use Rattle.answers.specs.declared.Finding.{Finding}
 use Rattle.answers.specs.States.{State, Target}
+use Rattle.answers.specs.Calls.{Call, Answer, answers_to}
 use Rattle.answers.specs.Answers.{fire_refusal, resume_refusal, the_order}
 use Rattle.answers.specs.Findings.{findings, survey_refusal}
 use Rattle.answers.specs.Reasons.{FireFits, WhyFire, ResumeFits, WhyResume, Such, SurveyFits, WhySurvey, AllFound}
-use Rattle.answers.specs.Promise.{Leads, SameState}
+use Rattle.answers.specs.Promise.{Leads, SameState, Transcript}
 
 -- a refusal, or none, that comes exactly when these say
 pub record ComesExactly (Fits : Type 0) (Why : Refusal → Type 0) (refusal : Option Refusal) : Type 0 where
@@ -30,6 +31,7 @@ pub record PinnedIn (N : NetMeaning) (s : State) : Type 0 where
       ((other : List ℕ) → Such N s tally target other → (order ≡ other) ⊎ Earlier order other) → order ≡ the_order N s tally
   pub findings_listed : (tally : List ℕ) (target : Target) (memory : ℕ) → survey_refusal N s tally target memory ≡ None →
       (list : List Finding) → AllFound N s.counts (at tally) target list → list ≡ findings N s.counts (at tally) target
+  pub transcript_said : (calls : List Call) (said : List Answer) → Transcript N s calls said → said ≡ answers_to N s calls
   pub state_left : (order : List ℕ) (a b : State) → Leads N order s a → Leads N order s b → SameState a b
 
 abbrev pub Pinned : Type 0

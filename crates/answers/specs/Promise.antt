@@ -1,18 +1,18 @@
 -- The promise: what fire, resume and survey answer and leave, in any state and after every list of calls.
-use Rattle.std.specs.Prelude.{◌≡◌, ℕ, ◌+◌, ◌<◌, ◌≤◌, ◌⊎◌, ◌↔◌, List, [], ◌∷◌, length, take, drop, Some, None, Ok, Err, Option, Result}
+use Rattle.std.specs.Prelude.{◌≡◌, ℕ, ◌+◌, ◌<◌, ◌≤◌, ◌⊎◌, ◌↔◌, List, [], ◌∷◌, ◌++◌, length, take, drop, Some, None, Ok, Err, Option, Result}
 use Rattle.refusals.specs.declared.Refusal.{Refusal}
 use Rattle.theory.specs.Sums.{sum_to}
 use Rattle.theory.specs.Nets.{NetMeaning, NetLaw}
 use Rattle.theory.specs.Rows.{at}
-use Rattle.theory.specs.Firing.{CanFire, after, times}
+use Rattle.theory.specs.Firing.{Marking, CanFire, after, times}
 use Rattle.theory.specs.Tallies.{steps_asked, Realizes}
 use Rattle.theory.specs.Orders.{Earlier}
 use Rattle.theory.specs.Laws.{AgreeBelow}
 use Rattle.answers.specs.declared.Finding.{Finding}
-use Rattle.answers.specs.States.{State, New, Target, exact, done_total, done_limit, yields_asked}
+use Rattle.answers.specs.States.{State, New, new_on, Target, exact, done_total, done_limit, yields_asked}
 use Rattle.answers.specs.Answers.{fire_refusal, fire_answer, size_refusal, resume_refusal, the_order, resume_answer, order_memory}
 use Rattle.answers.specs.Findings.{findings, survey_refusal, survey_answer, findings_memory}
-use Rattle.answers.specs.Calls.{Call, refusal_of, fired_by, after_call, answer_to, after_calls, history, accepted_times, fires, yields_in}
+use Rattle.answers.specs.Calls.{Call, Answer, refusal_of, fired_by, after_call, answer_to, after_calls, answers_to, history, accepted_times, fires, yields_in}
 use Rattle.answers.specs.Calls.Call.{fire, resume, survey}
 use Rattle.answers.specs.Calls.Answer.{refused, fired_once, order_written, findings_listed}
 use Rattle.answers.specs.Reasons.{FireFits, WhyFire, ResumeFits, WhyResume, Such, SurveyFits, WhySurvey, AllFound}
@@ -52,6 +52,14 @@ AllAccepted N s (c ∷ cs) = (refusal_of N s c ≡ None) × AllAccepted N (after
 pub record AsFires (N : NetMeaning) (s : State) (tally : List ℕ) (target : Target) (memory : ℕ) : Type 0 where
   pub none_refused : AllAccepted N s (fires (the_order N s tally))
   pub same_state : SameState (after_calls N s (fires (the_order N s tally))) (after_call N s (resume tally target memory))
+
+-- WHAT A NEW SITTING HOLDS
+
+-- a new sitting on a board with these counts and this spare: it holds these, and it has done no step
+pub record NewOn (counts : Marking) (spare : ℕ) (s : State) : Type 0 where
+  pub same_counts : (p : ℕ) → s.counts p ≡ counts p
+  pub same_spare : s.spare ≡ spare
+  pub nothing_done : (t : ℕ) → s.done t ≡ 0
 
 -- WHAT HOLDS IN ANY STATE
 
@@ -114,6 +122,12 @@ pub record InAnyState (N : NetMeaning) (s : State) : Type 0 where
 
 -- WHAT HOLDS AFTER EVERY LIST OF CALLS
 
+-- a transcript of the calls: one answer to each, and in turn what is said to it in the state that the calls before it left
+pub record Transcript (N : NetMeaning) (start : State) (calls : List Call) (said : List Answer) : Type 0 where
+  pub one_each : length said ≡ length calls
+  pub in_turn : (earlier : List Call) (c : Call) (later : List Call) → calls ≡ earlier ++ (c ∷ later) →
+      take 1 (drop (length earlier) said) ≡ answer_to N (after_calls N start earlier) c ∷ []
+
 -- the row has n numbers, those of f
 abbrev pub RowOf : List ℕ → ℕ → (ℕ → ℕ) → Type 0
 RowOf row n f = (length row ≡ n) × ((i : ℕ) → i < n → at row i ≡ f i)
@@ -137,6 +151,8 @@ pub record Replayed (N : NetMeaning) (start now other : State) (tally numbers : 
 
 -- whatever calls were made on a new sitting, refused ones included
 pub record AfterCalls (N : NetMeaning) (start : State) (calls : List Call) : Type 0 where
+  -- what was said to them is their transcript
+  pub transcript : Transcript N start calls (answers_to N start calls)
   -- each step's done count is its accepted fires and its numbers in the tallies that resume accepted
   pub counts_accepted_work : (t : ℕ) → (after_calls N start calls).done t ≡ accepted_times N start calls t
   -- the steps fired so far, in their order, lead from the start to what the sitting holds, with the done row as their counts
@@ -153,7 +169,8 @@ pub record AfterCalls (N : NetMeaning) (start : State) (calls : List Call) : Typ
       HandOver N start (after_calls N start calls) other tally numbers memory →
       Replayed N start (after_calls N start calls) other tally numbers memory
 
--- for every lawful net, every sitting, and every list of calls on a new one
+-- for every board a new sitting; for every lawful net, every sitting, and every list of calls on a new one
 pub record Promise : Type 0 where
+  pub new_sittings : (counts : Marking) (spare : ℕ) → NewOn counts spare (new_on counts spare)
   pub in_any_state : (N : NetMeaning) → NetLaw N → (s : State) → InAnyState N s
   pub after_any_calls : (N : NetMeaning) → NetLaw N → (start : State) → New start → (calls : List Call) → AfterCalls N start calls

@@ -1,5 +1,5 @@
 -- When each call is accepted, and why it is refused, as conditions on the net, the marking and the sizes.
-use Rattle.std.specs.Prelude.{◌≡◌, ℕ, ◌+◌, ◌<◌, ◌≤◌, ◌⊎◌, ◌↔◌, List, [], ◌∷◌, ◌++◌, map, length, pos, ◌<ℤ◌, ◌≢◌}
+use Rattle.std.specs.Prelude.{◌≡◌, ℕ, ◌+◌, ◌<◌, ◌≤◌, ◌⊎◌, ◌↔◌, List, [], ◌∷◌, ◌++◌, map, length, ℤ, pos, ◌+ℤ◌, ◌<ℤ◌, ◌≢◌}
 use Rattle.refusals.specs.declared.Refusal.{Refusal}
 use Rattle.refusals.specs.declared.Refusal.TheVariants.{RowsUnfit, DoneLimit, OrderMemoryShort, SpareShort, Short, CutOff, Missed, NoSuchStep, InputEmpty, ListFull}
 use Rattle.theory.specs.Nets.{NetMeaning}
@@ -7,9 +7,10 @@ use Rattle.theory.specs.Rows.{at}
 use Rattle.theory.specs.Firing.{Marking, after}
 use Rattle.theory.specs.Tallies as theory
 use Rattle.theory.specs.Tallies.{Tally, steps_asked, final_number, IsCutOff, NoPlaceShort, Realizes, Realizable}
+use Rattle.answers.specs.declared.Cause.{Cause}
+use Rattle.answers.specs.declared.Cause.TheVariants as cause
 use Rattle.answers.specs.declared.Finding.{Finding}
 use Rattle.answers.specs.States.{State, Target, done_total, done_limit, findings_needed, yields_of, yields_asked}
-use Rattle.answers.specs.Findings.{short_finding, cut_off_finding, missed_finding}
 
 -- FIRE
 
@@ -134,6 +135,10 @@ pub record Exactly (n : ℕ) (P : ℕ → Type 0) (ps : List ℕ) : Type 0 where
   pub rising : Rising ps
   pub exact : (p : ℕ) → Among p ps ↔ ((p < n) × P p)
 
+-- a finding at each of the places, with what is wrong there
+abbrev pub findings_at : (ℕ → Cause) → List ℕ → List Finding
+findings_at wrong places = map (λ p. record { place = p; cause = wrong p }) places
+
 -- a finding for every short place, then for every cut-off place, then for every missed place, and no other
 pub record AllFound (N : NetMeaning) (m : Marking) (x : Tally) (target : Target) (list : List Finding) : Type 0 where
   pub short_places : List ℕ
@@ -142,5 +147,10 @@ pub record AllFound (N : NetMeaning) (m : Marking) (x : Tally) (target : Target)
   pub all_short : Exactly N.places (theory.Short N m x) short_places
   pub all_cut_off : Exactly N.places (IsCutOff N m x) cut_off_places
   pub all_missed : Exactly N.places (FinalMisses N m x target) missed_places
-  pub listed : list ≡ map (short_finding N m x) short_places
-      ++ (map cut_off_finding cut_off_places ++ map (missed_finding N m x target) missed_places)
+  -- a missed place's number, which together with its target is its final number
+  pub missed_number : ℕ → ℤ
+  pub with_the_target : (p : ℕ) → missed_number p +ℤ pos (at target.numbers p) ≡ final_number N m x p
+  -- a short place's number is its final number
+  pub listed : list ≡ findings_at (λ p. cause.Short (final_number N m x p)) short_places
+      ++ (findings_at (λ p. cause.CutOff) cut_off_places
+      ++ findings_at (λ p. cause.Missed (missed_number p)) missed_places)
