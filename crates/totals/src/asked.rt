@@ -1,4 +1,4 @@
-//! What a tally asks of a net in all: steps and yields.
+//! How many steps a tally asks for, how many were done, and what a step yields in all.
 ghost use Rattle.std.specs.Prelude.{◌≡◌, ◌^◌, ◌<◌};
 ghost use Rattle.answers.specs.States.{yields_of};
 ghost use Rattle.theory.specs.Rows.{at};

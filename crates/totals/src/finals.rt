@@ -19,6 +19,7 @@ pub struct Asked<'a, N: Net> {
     pub tally: &'a [u16],
     pub target: &'a [u32],
     pub kind: Kind,
+    // of the net and the tally above, which clauses name without it
     flow: &'a Flow<'a, N>,
     ghost same_net: { flow.now.net.now ≡ net.now },
     ghost same_tally: { flow.now.tally.now ≡ tally.now },
