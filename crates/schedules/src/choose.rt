@@ -52,7 +52,10 @@ impl Schedule {
         ensures { TakesLast self.now step result }
     {
         self.times_left(step) == 1
-            && self.takers[usize::from(self.input(step))].without(step).first().is_none()
+            && self.takers[usize::from(self.input(step))]
+                .without(step)
+                .first()
+                .is_none()
     }
 
     /// Whether the input place, where the step does not yield, is reached from another place that holds a block after it.
