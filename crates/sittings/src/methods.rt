@@ -62,7 +62,8 @@ impl<N: Net, B: Board> Sitting<N, B> {
             held_by B.Board self.new ≡ unless (resume_refusal net before tally.now target (length order.old)) before (after_resume net before tally.now) }
         ensures memory { order.new ≡ order_memory (N.meaning self.old.net).net (held_by B.Board self.old) tally.now (target_of target.entry.numbers.now target.entry.kind) order.old }
     {
-        let table = NetTable::read(&self.net);
+        let mut table = NetTable::new();
+        table.read(&self.net);
         let length = fire_tally(&table, &mut self.board, &self.done, tally, target, order)?;
         self.done = with_tally(&self.done, tally);
         Ok(length)
@@ -79,7 +80,8 @@ impl<N: Net, B: Board> Sitting<N, B> {
         ensures answer { result ≡ survey_answer (N.meaning self.now.net).net (held_by B.Board self.now) tally.now (target_of target.entry.numbers.now target.entry.kind) (length findings.old) }
         ensures memory { findings.new ≡ findings_memory (N.meaning self.now.net).net (held_by B.Board self.now) tally.now (target_of target.entry.numbers.now target.entry.kind) findings.old }
     {
-        let table = NetTable::read(&self.net);
+        let mut table = NetTable::new();
+        table.read(&self.net);
         list_findings(&table, &self.board, &self.done, tally, target, findings)
     }
 }

@@ -5,7 +5,6 @@ ghost use Rattle.table_law.proofs.TableLaw.{table_lawful};
 ghost use Rattle.table_law.specs.Tables.{cell, yields_somewhere, table_net};
 ghost use Rattle.theory.specs.Rows.{at};
 
-use nets::inputs::inputs_of;
 use nets::net::{MOST_PLACES, MOST_STEPS, Net};
 use place_sets::PlaceSet;
 
@@ -14,44 +13,54 @@ use place_sets::PlaceSet;
 pub struct NetTable {
     places: u8,
     steps: u16,
-    // Three rows by step and not one of structs, which would be no plainer: `inputs_of` gives the first row whole, for
-    // schedules too.
+    // Rows by step, which may hold anything from the number of steps on.
     inputs: [u8; MOST_STEPS],
     yields: [[u8; MOST_PLACES]; MOST_STEPS],
     yield_places: [PlaceSet; MOST_STEPS],
     // Six fields and not one with the whole law: that names a place where a step yields, so it may hold
-    // in several ways, and a ghost field in one way only. Two more: the rows hold the yields outside the net too, and
-    // the sets are the places of the rows.
+    // in several ways, and a ghost field in one way only. Two more: the row of a step holds its yields outside the
+    // places too, and the set of a step is the places of its row.
     ghost some_place: { 1 ≤ places },
     ghost few_places: { places ≤ 64 },
     ghost few_steps: { steps ≤ 128 },
     ghost inputs_inside: { (t : ℕ) → t < steps → at inputs t < places },
     ghost yields_small: { (t p : ℕ) → t < steps → p < places → cell yields t p ≤ 255 },
     ghost yields_something: { (t : ℕ) → t < steps → yields_somewhere yields places t ≡ true },
-    ghost nothing_outside: { (t p : ℕ) → cell yields t p ≡ (table_net places steps inputs yields).yields t p },
-    ghost places_held: { (t p : ℕ) → has (at yield_places t) p ≡ nat_lt 0 (cell yields t p) },
+    ghost nothing_outside: { (t p : ℕ) → t < steps → cell yields t p ≡ (table_net places steps inputs yields).yields t p },
+    ghost places_held: { (t p : ℕ) → t < steps → has (at yield_places t) p ≡ nat_lt 0 (cell yields t p) },
 }
 
 impl NetTable {
-    /// Reads every answer of a net.
-    pub fn read<N: Net>(net: &N) -> NetTable
-        ensures { table_net result.places result.steps result.inputs result.yields ≡ (N.meaning net.now).net }
+    /// A table of a net of one place and no steps.
+    pub fn new() -> NetTable
+        ensures places { result.places ≡ 1 }
+        ensures steps { result.steps ≡ 0 }
     {
-        // Zeros and empty sets first, so that a net of few steps is asked few times. The rows are filled here, since
-        // a function that gave them back would copy them once more.
-        let mut yields = [[0; MOST_PLACES]; MOST_STEPS];
-        let mut yield_places = [PlaceSet::empty(); MOST_STEPS];
-        for step in 0..net.steps() {
-            yields[usize::from(step)] = net.yields(step);
-            yield_places[usize::from(step)] = net.yield_places(step);
-        }
         NetTable {
-            places: net.places(),
-            steps: net.steps(),
-            inputs: inputs_of(net),
-            yields,
-            yield_places,
+            places: 1,
+            steps: 0,
+            inputs: [0; MOST_STEPS],
+            yields: [[0; MOST_PLACES]; MOST_STEPS],
+            yield_places: [PlaceSet::empty(); MOST_STEPS],
         }
+    }
+
+    /// Takes over every answer of a net.
+    pub fn read<N: Net>(&mut self, net: &N)
+        ensures { table_net self.new.places self.new.steps self.new.inputs self.new.yields ≡ (N.meaning net.now).net }
+    {
+        // While the table has no steps its rows may hold anything, so they are filled where they lie: a table that
+        // was given back would be copied. Those past the last step stay as they are.
+        self.steps = 0;
+        self.places = net.places();
+        let steps = net.steps();
+        for step in 0..steps {
+            let row = usize::from(step);
+            self.inputs[row] = net.input(step).unwrap_or(0);
+            self.yields[row] = net.yields(step);
+            self.yield_places[row] = net.yield_places(step);
+        }
+        self.steps = steps;
     }
 }
 

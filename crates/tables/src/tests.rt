@@ -1,14 +1,20 @@
-//! A table answers as the net that it was read from, also outside the net.
+//! A table answers as the net that it was last read from, also outside the net.
 use crate::net_table::NetTable;
 use nets::grid::GridNet;
 use nets::net::Net;
 use refusals::Refusal;
 use std::test::Fail;
 
-fn table<'a>(file: &'a [u8]) -> Result<NetTable, Refusal> {
+fn net<'a>(file: &'a [u8]) -> Result<GridNet<'a>, Refusal> {
     let mut net: GridNet<'a> = GridNet::new();
     net.load(file)?;
-    Ok(NetTable::read(&net))
+    Ok(net)
+}
+
+fn table<'a>(file: &'a [u8]) -> Result<NetTable, Refusal> {
+    let mut table = NetTable::new();
+    table.read(&net(file)?);
+    Ok(table)
 }
 
 #[test]
@@ -36,5 +42,32 @@ fn a_table_answers_as_its_net(rt: HostRuntime) -> Result<(), Fail> {
     );
     assert_eq!(rt; net.yields(2)[0], 0);
     assert!(rt; net.yield_places(2).is_empty());
+    Ok(())
+}
+
+#[test]
+fn a_table_read_again_answers_as_the_later_net(rt: HostRuntime) -> Result<(), Fail> {
+    let mut table = table(&[3, 2, 0, 0, 0, 7, 2, 1, 5, 0])?;
+    table.read(&net(&[2, 1, 1, 4, 0])?);
+    assert_eq!(rt; (table.places(), table.steps()), (2, 1));
+    assert_eq!(rt; (table.input(0), table.input(1)), (Some(1), None));
+    assert_eq!(rt;
+        (
+            table.yield_at(0, 0),
+            table.yield_at(0, 2),
+            table.yield_at(1, 0)
+        ),
+        (4, 0, 0)
+    );
+    assert_eq!(rt; (table.yields(0)[2], table.yields(1)[1]), (0, 0));
+    assert!(rt; table.yield_places(1).is_empty());
+    Ok(())
+}
+
+#[test]
+fn a_new_table_has_no_steps(rt: HostRuntime) -> Result<(), Fail> {
+    let net = NetTable::new();
+    assert_eq!(rt; (net.places(), net.steps()), (1, 0));
+    assert_eq!(rt; net.input(0), None);
     Ok(())
 }
