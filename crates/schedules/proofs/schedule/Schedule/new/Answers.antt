@@ -8,11 +8,11 @@ use Rattle.schedules.proofs.schedule.Schedule.new.Goals as goal
 
 pub returns : goal.returns
 returns g c =
-    let L : LawfulNet = g.N.Net.meaning c.args.net.now in
+    let lawful : LawfulNet = g.N.Net.meaning c.args.net.now in
     let x : ℕ → ℕ = at c.args.tally.now in
     record {
       steps = c.steps.ensures;
-      left = λ t l. c.front.ensures t (omega (arith, L.law.few_steps));
+      left = λ t l. c.front.ensures t (omega (arith, lawful.law.few_steps));
       inputs = c.inputs_of.ensures.answer;
       yields = c.all_yield_places.ensures;
       marked = λ p. c.marked_in-marked.ensures p ∙ ap (λ (v : ℕ). ltb p v && ltb 0 (at c.args.counts.now p)) c.places.ensures;
@@ -20,10 +20,10 @@ returns g c =
       many = λ p. c.many_in.ensures p ∙ ap (λ (v : ℕ). ltb p v && ltb 1 (at c.args.counts.now p)) c.places-2.ensures;
       before = λ p q. elim (cases_lt p 64) [
         | inl l ↦ c.new.ensures.before p q l ∙ c.leads_of.ensures q p
-        | inr k ↦ c.new.ensures.past p q k ∙ sym (no_leads L.net L.law x q p (omega (arith, L.law.few_places)))
+        | inr k ↦ c.new.ensures.past p q k ∙ sym (no_leads lawful.net lawful.law x q p (omega (arith, lawful.law.few_places)))
       ];
       ready = record {
         takers = c.takers_of-takers.ensures;
-        ready = c.takers_at.ensures (is_left L.net x) L.net.input c.takers_of-takers.ensures;
+        ready = c.takers_at.ensures (is_left lawful.net x) lawful.net.input c.takers_of-takers.ensures;
       };
     }
