@@ -1,5 +1,5 @@
 //! A schedule from a net, the counts of a board and a tally.
-ghost use Rattle.std.specs.Prelude.{◌≡◌, ℕ, ◌<◌, ◌≤◌, ◌&&◌, nat_lt, slice_index_or};
+ghost use Rattle.std.specs.Prelude.{◌≡◌, ℕ, ◌<◌, ◌≤◌, ◌&&◌, nat_lt};
 ghost use Rattle.place_sets.specs.Flags.{has};
 ghost use Rattle.reached.specs.Led.{has_at};
 ghost use Rattle.schedules.specs.Shows.{Shows};
@@ -12,19 +12,18 @@ use nets::net::{MOST_STEPS, Net};
 use place_sets::PlaceSet;
 use reached::leads::{leads_of, marked_in};
 use reached::origins::Origins;
-use std::array;
+
+// Rows are empty first, so that a net of few steps is asked few times.
 
 /// The places at which each step yields.
 fn all_yield_places<N: Net>(net: &N) -> [PlaceSet; MOST_STEPS]
     ensures { (t p : ℕ) → has_at result t p ≡ nat_lt 0 ((N.meaning net.now).net.yields t p) }
 {
-    // an index of the array, so the cast keeps it
-    array::from_fn(
-        |step| -> PlaceSet
-            requires { step < 128 }
-            ensures { (p : ℕ) → has result p ≡ nat_lt 0 ((N.meaning net.entry.now).net.yields step p) }
-        { net.yield_places(step as u16) },
-    )
+    let mut sets = [PlaceSet::empty(); MOST_STEPS];
+    for step in 0..net.steps() {
+        sets[usize::from(step)] = net.yield_places(step);
+    }
+    sets
 }
 
 /// The places at which a step puts down more than one block.
@@ -47,13 +46,11 @@ fn twice_at<N: Net>(net: &N, step: u16) -> PlaceSet
 fn all_twice<N: Net>(net: &N) -> [PlaceSet; MOST_STEPS]
     ensures { (t p : ℕ) → has_at result t p ≡ nat_lt 1 ((N.meaning net.now).net.yields t p) }
 {
-    // an index of the array, so the cast keeps it
-    array::from_fn(
-        |step| -> PlaceSet
-            requires { step < 128 }
-            ensures { (p : ℕ) → has result p ≡ nat_lt 1 ((N.meaning net.entry.now).net.yields step p) }
-        { twice_at(net, step as u16) },
-    )
+    let mut sets = [PlaceSet::empty(); MOST_STEPS];
+    for step in 0..net.steps() {
+        sets[usize::from(step)] = twice_at(net, step);
+    }
+    sets
 }
 
 /// The places that hold more than one block.
@@ -67,11 +64,15 @@ fn many_in(counts: &[u32], places: u8) -> PlaceSet
     )
 }
 
-/// The front of a row, filled up with 0.
-fn front<T: Copy, const N: usize>(row: &[T], past: T) -> [T; N]
-    ensures { (i : ℕ) → i < N → slice_index_or result i past ≡ slice_index_or row.now i past }
+/// How often the tally has each step; 0 past its end.
+fn all_times(tally: &[u16]) -> [u16; MOST_STEPS]
+    ensures { (t : ℕ) → t < 128 → at result t ≡ at tally.now t }
 {
-    array::from_fn(|i| row.get(i).copied().unwrap_or(past))
+    let mut left = [0; MOST_STEPS];
+    for step in 0..tally.len().min(MOST_STEPS) {
+        left[step] = tally[step];
+    }
+    left
 }
 
 impl Schedule {
@@ -83,7 +84,7 @@ impl Schedule {
         let takers = takers_of(net, tally);
         Schedule {
             steps: net.steps(),
-            left: front(tally, 0),
+            left: all_times(tally),
             inputs: inputs_of(net),
             yields: all_yield_places(net),
             twice: all_twice(net),

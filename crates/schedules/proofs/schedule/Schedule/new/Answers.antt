@@ -12,7 +12,7 @@ returns g c =
     let x : ℕ → ℕ = at c.args.tally.now in
     record {
       steps = c.steps.ensures;
-      left = λ t l. c.front.ensures t (omega (arith, lawful.law.few_steps));
+      left = λ t l. c.all_times.ensures t (omega (arith, lawful.law.few_steps));
       inputs = c.inputs_of.ensures.answer;
       yields = c.all_yield_places.ensures;
       marked = λ p. c.marked_in-marked.ensures p ∙ ap (λ (v : ℕ). ltb p v && ltb 0 (at c.args.counts.now p)) c.places.ensures;
