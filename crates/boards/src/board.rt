@@ -1,6 +1,7 @@
 //! What every board means, the law that every board keeps, and its four calls.
 ghost use Rattle.std.specs.Prelude.{◌≡◌, ℕ, ◌<◌};
-ghost use Rattle.boards.specs.Boards.{BoardLaw, IndexSays, TakeSays, PutSays};
+ghost use Rattle.boards.specs.Boards.{BoardLaw, IndexSays, TakeSays, PutSays, MoveAllSays};
+ghost use Rattle.theory.specs.Rows.{at};
 
 use refusals::Refusal;
 
@@ -47,6 +48,13 @@ pub trait Board {
     /// Moves n blocks from spare to the place.
     fn put(&mut self, place: u8, n: u32) -> Result<(), Refusal>
         ensures answer { PutSays place n (counts self.old) (spare self.old) result (counts self.new) (spare self.new) };
+
+    /// Moves so many blocks from and to each place in one go, where the board can do so; otherwise it says no and is as it was.
+    fn move_all(&mut self, taken: &[u32; PLACES], put: &[u32; PLACES], all_taken: u32, all_put: u32) -> bool
+        ensures answer { MoveAllSays (at taken.now) (at put.now) all_taken all_put (counts self.old) (spare self.old) result (counts self.new) (spare self.new) }
+    {
+        false
+    }
 
     ghost outside: { (b : Self) (p : ℕ) → 63 < p → counts b p ≡ 0 };
 

@@ -1,8 +1,11 @@
 -- The firing rule on a board: when a step can be fired there, and what that leaves.
-use Rattle.std.specs.Prelude.{◌≡◌, ℕ, ◌+◌, ◌-◌, Bool, true, false, not, ◌&&◌, nat_lt}
+use Rattle.std.specs.Prelude.{◌≡◌, ℕ, ◌+◌, ◌-◌, Bool, true, false, not, ◌&&◌, nat_lt, List, length}
 use Rattle.theory.specs.Nets.{NetMeaning}
-use Rattle.theory.specs.Firing.{Marking, fired}
-use Rattle.answers.specs.States.{yields_of}
+use Rattle.theory.specs.Firing.{Marking, fired, after}
+use Rattle.theory.specs.Tallies.{Tally, spent, gained}
+use Rattle.answers.specs.Calls.{yields_in}
+use Rattle.answers.specs.States.{yields_of, yields_asked}
+use Rattle.boards.specs.Boards.{MoveAllSays}
 
 -- the step is the net's, its input place holds a block, and spare holds its yields once that block is taken
 abbrev pub can_move : NetMeaning → Marking → ℕ → ℕ → Bool
@@ -13,3 +16,11 @@ can_move N m spare t =
 abbrev pub Moved : NetMeaning → ℕ → Bool → Marking → ℕ → Marking → ℕ → Type 0
 Moved N t true m spare m' spare' = (m' ≡ fired N m t) × (spare' ≡ (spare + 1) - yields_of N t)
 Moved N t false m spare m' spare' = (m' ≡ m) × (spare' ≡ spare)
+
+-- what is left on a board on which the order was fired
+abbrev pub MovedBy : NetMeaning → List ℕ → Marking → ℕ → Marking → ℕ → Type 0
+MovedBy N order m spare m' spare' = (m' ≡ after N m order) × (spare' + yields_in N order ≡ spare + length order)
+
+-- whether all that a tally takes and yields was moved in one go, and what that leaves
+abbrev pub MovedAtOnce : NetMeaning → Tally → ℕ → Bool → Marking → ℕ → Marking → ℕ → Type 0
+MovedAtOnce N x steps b m spare m' spare' = MoveAllSays (spent N x) (gained N x) steps (yields_asked N x) m spare b m' spare'

@@ -5,6 +5,8 @@ ghost use Rattle.std.specs.Prelude.{◌≡◌, ℕ, ◌+◌, ◌-◌, ◌≤◌,
 ghost use Rattle.answers.specs.States.{yields_of};
 ghost use Rattle.firings.specs.Moves.{can_move, Moved};
 
+pub mod whole_order;
+
 use boards::board::Board;
 use nets::net::Net;
 use place_sets::PlaceSet;
