@@ -1,2 +1,3 @@
 pub mod RowSums
 pub mod AtPlace
+pub mod Moves

@@ -1,5 +1,5 @@
--- The law of every board, and what take and put answer and leave.
-use Rattle.std.specs.Prelude.{◌≡◌, ℕ, ◌+◌, ◌-◌, ◌<◌, ◌≤◌, Bool, true, false, cond, ◌⊎◌, Ok, Err, Result, ◌==◌}
+-- The law of every board, and what take, put and move_all answer and leave.
+use Rattle.std.specs.Prelude.{◌≡◌, ℕ, ◌+◌, ◌-◌, ◌<◌, ◌≤◌, cond, Bool, true, false, ◌⊎◌, Ok, Err, Result, ◌==◌}
 use Rattle.theory.specs.Sums.{sum_to}
 use Rattle.refusals.specs.declared.Refusal.{Refusal}
 use Rattle.refusals.specs.declared.Refusal.TheVariants.{NoSuchPlace, PlaceEmpty, PutAboveSpare}
@@ -65,7 +65,8 @@ pub record MovedAll (taken put : ℕ → ℕ) (all_taken all_put : ℕ) (counts 
   pub counts_moved : (p : ℕ) → counts' p + taken p ≡ counts p + put p
   pub spare_moved : spare' + all_put ≡ spare + all_taken
 
--- whether all was moved in one go, and what that leaves
-abbrev pub MoveAllSays : (taken put : ℕ → ℕ) (all_taken all_put : ℕ) (counts : ℕ → ℕ) (spare : ℕ) → Bool → (counts' : ℕ → ℕ) (spare' : ℕ) → Type 0
-MoveAllSays taken put all_taken all_put counts spare true counts' spare' = MovedAll taken put all_taken all_put counts spare counts' spare'
+-- what move_all answers, from the counts and spare before it to those after it
+abbrev pub MoveAllSays : (ℕ → ℕ) → (ℕ → ℕ) → ℕ → ℕ → (ℕ → ℕ) → ℕ → Bool → (ℕ → ℕ) → ℕ → Type 0
+MoveAllSays taken put all_taken all_put counts spare true counts' spare' =
+    MovedAll taken put all_taken all_put counts spare counts' spare'
 MoveAllSays taken put all_taken all_put counts spare false counts' spare' = Unchanged counts spare counts' spare'

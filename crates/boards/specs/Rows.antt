@@ -1,5 +1,5 @@
--- What the count board's load answers and leaves.
-use Rattle.std.specs.Prelude.{◌≡◌, ℕ, List, length, Ok, Err, Result, slice_index}
+-- What the count board's load answers and leaves, and rows whose numbers have moved.
+use Rattle.std.specs.Prelude.{◌≡◌, ℕ, ◌+◌, List, length, Ok, Err, Result, slice_index}
 use Rattle.refusals.specs.declared.Refusal.{Refusal}
 use Rattle.refusals.specs.declared.Refusal.TheVariants.{BoardRowUnfit}
 use Rattle.boards.specs.Boards.{BoardLaw, Unchanged}
@@ -25,3 +25,8 @@ abbrev pub LoadSays : {X : Type 0} → List ℕ → ℕ → (ℕ → ℕ) → �
 LoadSays row given counts spare (Ok x) counts' spare' = Loaded row given counts' spare'
 LoadSays row given counts spare (Err e) counts' spare' =
     LoadRefused row given e × Unchanged counts spare counts' spare'
+
+-- a row of 64 with the counts less what is taken and with what is put at each place
+pub record RowMoved (counts taken put row : List ℕ) : Type 0 where
+  pub long : length row ≡ 64
+  pub moved : (p : ℕ) → at_place row p + at_place taken p ≡ at_place counts p + at_place put p

@@ -1,7 +1,7 @@
-//! What every board means, the law that every board keeps, and its four calls.
-ghost use Rattle.std.specs.Prelude.{◌≡◌, ℕ, ◌<◌};
-ghost use Rattle.boards.specs.Boards.{BoardLaw, IndexSays, TakeSays, PutSays, MoveAllSays};
+//! What every board means, the law that every board keeps, its four calls, and a fifth for many moves in one go.
+ghost use Rattle.std.specs.Prelude.{◌≡◌, ℕ, ◌+◌, ◌<◌, MatchOption, ◌⊎◌};
 ghost use Rattle.theory.specs.Rows.{at};
+ghost use Rattle.boards.specs.Boards.{BoardLaw, IndexSays, TakeSays, PutSays, MoveAllSays};
 
 use refusals::Refusal;
 
@@ -24,6 +24,13 @@ pub fn index_of(place: u8) -> Result<usize, Refusal>
 
 /// What the counts of a board and its spare add up to at most.
 pub const BOARD_LIMIT: u32 = 2_147_483_647;
+
+/// The number raised by `more` and then lowered by `fewer`; none where one of the two is no `u32`.
+pub fn changed(number: u32, more: u32, fewer: u32) -> Option<u32>
+    ensures answer { MatchOption result ((4294967295 < number + more) ⊎ (number + more < fewer)) (λ n. n + fewer ≡ number + more) }
+{
+    number.checked_add(more)?.checked_sub(fewer)
+}
 
 /// A board: how many blocks (tokens) lie at each of 64 places (a marking), and how many more may be put down.
 pub trait Board {
@@ -49,8 +56,15 @@ pub trait Board {
     fn put(&mut self, place: u8, n: u32) -> Result<(), Refusal>
         ensures answer { PutSays place n (counts self.old) (spare self.old) result (counts self.new) (spare self.new) };
 
-    /// Moves so many blocks from and to each place in one go, where the board can do so; otherwise it says no and is as it was.
-    fn move_all(&mut self, taken: &[u32; PLACES], put: &[u32; PLACES], all_taken: u32, all_put: u32) -> bool
+    /// Moves so many blocks from and to each place in one go, `all_taken` and `all_put` in all, where the board can do
+    /// so; otherwise says no and is as it was. A board whose blocks have places of their own, as slots, need not.
+    fn move_all(
+        &mut self,
+        taken: &[u32; PLACES],
+        put: &[u32; PLACES],
+        all_taken: u32,
+        all_put: u32,
+    ) -> bool
         ensures answer { MoveAllSays (at taken.now) (at put.now) all_taken all_put (counts self.old) (spare self.old) result (counts self.new) (spare self.new) }
     {
         false

@@ -1,12 +1,12 @@
 //! The count board: a number for each place, and spare.
-ghost use Rattle.std.specs.Prelude.{◌≡◌, ◌*◌, ◌≤◌, length, replicate};
+ghost use Rattle.std.specs.Prelude.{◌≡◌, ◌*◌, ◌≤◌, length, replicate, IfSome, MatchBool};
 ghost use Rattle.theory.specs.Sums.{sum_to};
 ghost use Rattle.boards.specs.Boards.{BoardLaw};
-ghost use Rattle.boards.specs.Rows.{at_place, LoadSays};
+ghost use Rattle.boards.specs.Rows.{at_place, LoadSays, RowMoved};
 ghost use Rattle.std.proofs.Common.{arith, rules};
 ghost use Rattle.std.proofs.lemmas.List.{get_or_past};
 
-use crate::board::{BOARD_LIMIT, Board, PLACES, index_of};
+use crate::board::{BOARD_LIMIT, Board, PLACES, changed, index_of};
 use refusals::Refusal;
 
 /// A board that keeps the 64 counts and spare as numbers.
@@ -38,7 +38,7 @@ impl CountBoard {
         ensures answer { LoadSays row.now spare (at_place self.old.counts) self.old.spare result (at_place self.new.counts) self.new.spare }
     {
         let counts = <&[u32; PLACES]>::try_from(row).map_err(|_| Refusal::BoardRowUnfit)?;
-        if total(counts) + u64::from(spare) > u64::from(BOARD_LIMIT) {
+        if !lawful(counts, spare) {
             return Err(Refusal::BoardRowUnfit);
         }
         self.counts = *counts;
@@ -53,6 +53,28 @@ fn total(counts: &[u32; PLACES]) -> u64
     ensures bound { result ≤ 64 * 4294967295 }
 {
     counts.iter().map(|count| u64::from(*count)).sum()
+}
+
+// whether the counts and the spare keep the law of boards
+fn lawful(counts: &[u32; PLACES], spare: u32) -> bool
+    ensures { MatchBool result (BoardLaw (at_place counts.now) spare) (BoardLaw (at_place counts.now) spare → ⊥) }
+{
+    total(counts) + u64::from(spare) <= u64::from(BOARD_LIMIT)
+}
+
+// the counts with so many blocks taken and put at each place; none where a place would have too few or too many
+fn moved(
+    counts: &[u32; PLACES],
+    taken: &[u32; PLACES],
+    put: &[u32; PLACES],
+) -> Option<[u32; PLACES]>
+    ensures value { IfSome result (RowMoved counts.now taken.now put.now) }
+{
+    let mut row = *counts;
+    for place in 0..PLACES {
+        row[place] = changed(row[place], put[place], taken[place])?;
+    }
+    Some(row)
 }
 
 impl Board for CountBoard {
@@ -89,5 +111,25 @@ impl Board for CountBoard {
             .ok_or(Refusal::PutAboveSpare(place))?;
         self.counts[i] += n;
         Ok(())
+    }
+
+    fn move_all(
+        &mut self,
+        taken: &[u32; PLACES],
+        put: &[u32; PLACES],
+        all_taken: u32,
+        all_put: u32,
+    ) -> bool {
+        let Some(spare) = changed(self.spare, all_taken, all_put) else {
+            return false;
+        };
+        let Some(counts) = moved(&self.counts, taken, put) else {
+            return false;
+        };
+        if !lawful(&counts, spare) {
+            return false;
+        }
+        *self = CountBoard { counts, spare };
+        true
     }
 }

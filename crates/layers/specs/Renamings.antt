@@ -1,4 +1,4 @@
--- What a renaming row is, the counts under it, and what its load answers and leaves.
+-- What a renaming row is, the counts and rows of numbers under it, and what its load answers and leaves.
 use Rattle.std.specs.Prelude.{◌≡◌, ℕ, ◌<◌, cond, List, length, Ok, Err, Result, nat_lt, slice_index}
 use Rattle.refusals.specs.declared.Refusal.{Refusal}
 use Rattle.refusals.specs.declared.Refusal.TheVariants.{NotARenaming}
@@ -12,6 +12,11 @@ pub record IsRenaming (row : List ℕ) : Type 0 where
 -- the count at a place is the count below of the place that it stands for
 abbrev pub renamed : List ℕ → (ℕ → ℕ) → ℕ → ℕ
 renamed row counts p = cond (nat_lt p 64) (counts (slice_index row p)) 0
+
+-- each place's number stands at the place below that it stands for
+pub record RowBelow (row numbers below : List ℕ) : Type 0 where
+  pub long : length below ≡ 64
+  pub placed : (p : ℕ) → p < 64 → slice_index below (slice_index row p) ≡ slice_index numbers p
 
 -- why a row is refused
 pub record RowRefused (given : List ℕ) (e : Refusal) : Type 0 where

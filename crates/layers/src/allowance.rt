@@ -1,10 +1,11 @@
 //! The allowance: a board over any board, with a limit of its own on what may be put down.
 ghost use Rattle.std.specs.Prelude.{◌≡◌, ◌≤◌, min};
-ghost use Rattle.boards.specs.Boards.{board_limit, TakeSays, PutSays};
-ghost use Rattle.layers.specs.Allowances.{left_after_take, left_after_put, PutLeaves};
+ghost use Rattle.boards.specs.Boards.{board_limit, TakeSays, PutSays, MoveAllSays};
+ghost use Rattle.theory.specs.Rows.{at};
+ghost use Rattle.layers.specs.Allowances.{left_after_take, left_after_put, left_after_move_all, PutLeaves};
 ghost use Rattle.std.proofs.Common.{rules, arith};
 
-use boards::board::{BOARD_LIMIT, Board, index_of};
+use boards::board::{BOARD_LIMIT, Board, PLACES, changed, index_of};
 use refusals::Refusal;
 
 /// A board over another, of whose spare no more than the number left may be used.
@@ -76,5 +77,27 @@ impl<B: Board> Board for Allowance<B> {
         self.below.put(place, n)?;
         self.left = left;
         Ok(())
+    }
+
+    fn move_all(
+        &mut self,
+        taken: &[u32; PLACES],
+        put: &[u32; PLACES],
+        all_taken: u32,
+        all_put: u32,
+    ) -> bool
+        ensures answer { let old = self.old in let new = self.new in MoveAllSays (at taken.now) (at put.now) all_taken all_put (B.counts old.below) (min old.left (B.spare old.below)) result (B.counts new.below) (min new.left (B.spare new.below)) }
+        ensures left { self.new.left ≡ left_after_move_all all_taken all_put result self.old.left }
+        ensures below { let old = self.old in let new = self.new in MoveAllSays (at taken.now) (at put.now) all_taken all_put (B.counts old.below) (B.spare old.below) result (B.counts new.below) (B.spare new.below) }
+    {
+        let Some(left) = changed(self.left, all_taken, all_put) else {
+            return false;
+        };
+        if !self.below.move_all(taken, put, all_taken, all_put) {
+            return false;
+        }
+        // cut off only after the puts: what was taken may be above the limit by as much as they lower it
+        self.left = left.min(BOARD_LIMIT);
+        true
     }
 }

@@ -4,3 +4,5 @@
 pub mod allowance;
 pub mod pile;
 pub mod renaming;
+#[cfg(test)]
+mod tests;

@@ -1,8 +1,9 @@
 //! The renaming: a board over any board, whose places stand for those below in another sequence.
 ghost use Rattle.std.specs.Prelude.{◌≡◌, ℕ, ◌<◌, length, MatchBool, nat_lt, slice_index, slice_index_or};
 ghost use Rattle.std.proofs.Common.{◌∙◌, arith, rules};
-ghost use Rattle.boards.specs.Boards.{TakeSays, PutSays};
-ghost use Rattle.layers.specs.Renamings.{IsRenaming, renamed, RenameSays};
+ghost use Rattle.boards.specs.Boards.{TakeSays, PutSays, MoveAllSays};
+ghost use Rattle.theory.specs.Rows.{at};
+ghost use Rattle.layers.specs.Renamings.{IsRenaming, renamed, RowBelow, RenameSays};
 ghost use Rattle.std.proofs.lemmas.Bool.{cond-true, lt-ltb};
 ghost use Rattle.theory.proofs.SumLaws.{sum_to_same};
 ghost use Rattle.layers.specs.Permuted.{sum_to_permuted};
@@ -71,6 +72,18 @@ fn is_renaming(row: &[u8]) -> bool
     true
 }
 
+// the numbers of the places, at the places below
+fn row_below(row: &[u8; PLACES], numbers: &[u32; PLACES]) -> [u32; PLACES]
+    requires { IsRenaming row.now }
+    ensures { RowBelow row.now numbers.now result }
+{
+    let mut below = [0; PLACES];
+    for place in 0..PLACES {
+        below[usize::from(row[place])] = numbers[place];
+    }
+    below
+}
+
 impl<B: Board> Board for Renaming<B> {
     ghost counts = { λ s. renamed s.row (B.Board.counts s.below) };
 
@@ -113,5 +126,20 @@ impl<B: Board> Board for Renaming<B> {
         self.below
             .put(self.row[i], n)
             .map_err(|_| Refusal::PutAboveSpare(place))
+    }
+
+    fn move_all(
+        &mut self,
+        taken: &[u32; PLACES],
+        put: &[u32; PLACES],
+        all_taken: u32,
+        all_put: u32,
+    ) -> bool
+        ensures answer { let old = self.old in let new = self.new in MoveAllSays (at taken.now) (at put.now) all_taken all_put (renamed old.row (B.counts old.below)) (B.spare old.below) result (renamed new.row (B.counts new.below)) (B.spare new.below) }
+        ensures row { self.new.row ≡ self.old.row }
+    {
+        let taken = row_below(&self.row, taken);
+        let put = row_below(&self.row, put);
+        self.below.move_all(&taken, &put, all_taken, all_put)
     }
 }

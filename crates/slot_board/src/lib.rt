@@ -122,6 +122,7 @@ fn fill_highest(slots: &mut [u8], place: u8, n: u32)
     }
 }
 
+// `move_all` stays the trait's, which says no: which slots are filled depends on the sequence of takes and puts
 impl Board for SlotBoard {
     ghost counts = { λ b. counts_of b.slots };
 
