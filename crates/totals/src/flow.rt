@@ -48,6 +48,20 @@ impl<'a, N: Net> Flow<'a, N> {
         self.gained_at.get(usize::from(place)).copied().unwrap_or(0)
     }
 
+    /// The blocks that are spent at each place.
+    pub fn spent_row(&self) -> &[u32; MOST_PLACES]
+        ensures { (p : ℕ) → at result.now p ≡ spent (N.meaning self.now.net.now).net (at self.now.tally.now) p }
+    {
+        &self.spent_at
+    }
+
+    /// The blocks that each place gains.
+    pub fn gained_row(&self) -> &[u32; MOST_PLACES]
+        ensures { (p : ℕ) → at result.now p ≡ gained (N.meaning self.now.net.now).net (at self.now.tally.now) p }
+    {
+        &self.gained_at
+    }
+
     /// All blocks that the steps of the tally yield: what all places gain.
     pub fn yields_asked(&self) -> u64
         ensures answer { result ≡ yields_asked (N.meaning self.now.net.now).net (at self.now.tally.now) }
