@@ -168,33 +168,20 @@ fn chain_yield(file: &[u8], first: u16, place: u8) -> u8
     0
 }
 
-/// The weight of a chain's arc at each place, 0 where it has none.
-fn chain_yields(file: &[u8], first: u16) -> [u8; MOST_PLACES]
+/// Walks a chain: writes the weight of each arc into a row of zeros, at the arc's place, and gives these places.
+fn read_chain(file: &[u8], first: u16, row: &mut [u8; MOST_PLACES]) -> PlaceSet
     requires accepted { is_some (chained_refusal file.now) ≡ false }
     requires inside { first ≤ chained_arcs file.now }
-    ensures { (p : ℕ) → at result p ≡ chain_yield file.now (chained_arcs file.now) first p }
+    requires zeros { (p : ℕ) → at row.old p ≡ 0 }
+    ensures row { (p : ℕ) → at row.new p ≡ chain_yield file.now (chained_arcs file.now) first p }
+    ensures places { (p : ℕ) → has result p ≡ nat_lt 0 (chain_yield file.now (chained_arcs file.now) first p) }
 {
-    let mut weights = [0; MOST_PLACES];
+    let mut places = PlaceSet::empty();
     let mut number = first;
     // Places rise along a chain, so that none is written twice.
     while number != 0 {
         let arc = arc_at(file, number);
-        weights[usize::from(arc.place)] = arc.weight;
-        number = arc.next;
-    }
-    weights
-}
-
-/// The places of a chain's arcs.
-fn chain_places(file: &[u8], first: u16) -> PlaceSet
-    requires accepted { is_some (chained_refusal file.now) ≡ false }
-    requires inside { first ≤ chained_arcs file.now }
-    ensures { (p : ℕ) → has result p ≡ nat_lt 0 (chain_yield file.now (chained_arcs file.now) first p) }
-{
-    let mut places = PlaceSet::empty();
-    let mut number = first;
-    while number != 0 {
-        let arc = arc_at(file, number);
+        row[usize::from(arc.place)] = arc.weight;
         places = places.with(arc.place);
         number = arc.next;
     }
@@ -262,19 +249,16 @@ impl Net for ChainedNet<'_> {
         }
     }
 
-    // Each by one walk over the chain of the step, where the trait's own would walk it for each place.
-
-    fn yields(&self, step: u16) -> [u8; MOST_PLACES] {
-        if step < self.steps() {
-            chain_yields(self.file, first_arc(self.file, step))
-        } else {
-            [0; MOST_PLACES]
-        }
-    }
+    // Both by one walk over the chain of the step, where the trait's own would walk it for each place.
 
     fn yield_places(&self, step: u16) -> PlaceSet {
+        self.read_yields(step, &mut [0; MOST_PLACES])
+    }
+
+    fn read_yields(&self, step: u16, row: &mut [u8; MOST_PLACES]) -> PlaceSet {
+        *row = [0; MOST_PLACES];
         if step < self.steps() {
-            chain_places(self.file, first_arc(self.file, step))
+            read_chain(self.file, first_arc(self.file, step), row)
         } else {
             PlaceSet::empty()
         }

@@ -36,18 +36,6 @@ fn yield_of(file: &[u8], step: u16, place: u8) -> u8
     byte_at(file, row_of(file, step) + 1 + usize::from(place))
 }
 
-/// The yields in the row of a step; 0 past the last place.
-fn yields_of(file: &[u8], step: u16) -> [u8; MOST_PLACES]
-    requires { grid_places file.now ≤ 64 }
-    ensures { (p : ℕ) → at result p ≡ (if nat_lt p (grid_places file.now) then grid_yield file.now step p else 0) }
-{
-    let mut yields = [0; MOST_PLACES];
-    for place in 0..byte_at(file, 0) {
-        yields[usize::from(place)] = yield_of(file, step, place);
-    }
-    yields
-}
-
 /// Whether the input of a step is no place of the net.
 fn input_outside(file: &[u8], step: u16) -> bool
     ensures { result ≡ grid_input_outside file.now step }
@@ -153,15 +141,6 @@ impl Net for GridNet<'_> {
             yield_of(self.file, step, place)
         } else {
             0
-        }
-    }
-
-    // The row of the step as it lies in the file, where the trait's own would look for each place anew.
-    fn yields(&self, step: u16) -> [u8; MOST_PLACES] {
-        if step < self.steps() {
-            yields_of(self.file, step)
-        } else {
-            [0; MOST_PLACES]
         }
     }
 }

@@ -55,7 +55,8 @@ impl PlaceSet {
     pub fn has(self, place: u8) -> bool
         ensures { result ≡ has self place }
     {
-        place < PLACES && (self.word >> place) & 1 == 1
+        // The flag first, by the last bits of the place: it is one test, and where it is not set that is all.
+        (self.word >> (place % PLACES)) & 1 == 1 && place < PLACES
     }
 
     /// The set with one place more; a place above 63 leaves it as it is.
@@ -64,10 +65,9 @@ impl PlaceSet {
         ensures grows { has self place ≡ false → place < 64 → self < result }
         ensures bound { result < 2 ^ 64 }
     {
+        let word = self.word | (1 << (place % PLACES));
         if place < PLACES {
-            PlaceSet {
-                word: self.word | (1 << place),
-            }
+            PlaceSet { word }
         } else {
             self
         }
@@ -78,18 +78,6 @@ impl PlaceSet {
         ensures { (p : ℕ) → has result p ≡ (has self p && not (p == place)) }
     {
         self.minus(PlaceSet::empty().with(place))
-    }
-
-    /// The set without its least place.
-    pub fn without_first(self) -> PlaceSet
-        ensures answer { (k : ℕ) → IsFirst 64 self k → (p : ℕ) → has result p ≡ (has self p && not (p == k)) }
-        ensures none { Empty self → Empty result }
-        ensures shrinks { 0 < self → result < self }
-    {
-        // the word less 1 differs from it in its lowest 1 and the zeros below
-        PlaceSet {
-            word: self.word & self.word.wrapping_sub(1),
-        }
     }
 
     /// The places of either set.

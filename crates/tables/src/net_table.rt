@@ -59,8 +59,7 @@ impl<const STEPS: usize> NetTable<STEPS> {
         for step in 0..steps {
             let row = usize::from(step);
             self.inputs[row] = net.input(step).unwrap_or(0);
-            self.yields[row] = net.yields(step);
-            self.yield_places[row] = net.yield_places(step);
+            self.yield_places[row] = net.read_yields(step, &mut self.yields[row]);
         }
         self.steps = steps;
     }
@@ -93,19 +92,20 @@ impl<const STEPS: usize> Net for NetTable<STEPS> {
         }
     }
 
-    fn yields(&self, step: u16) -> [u8; MOST_PLACES] {
-        if step < self.steps {
-            self.yields[usize::from(step)]
-        } else {
-            [0; MOST_PLACES]
-        }
-    }
-
     fn yield_places(&self, step: u16) -> PlaceSet {
         if step < self.steps {
             self.yield_places[usize::from(step)]
         } else {
             PlaceSet::empty()
         }
+    }
+
+    fn read_yields(&self, step: u16, row: &mut [u8; MOST_PLACES]) -> PlaceSet {
+        *row = if step < self.steps {
+            self.yields[usize::from(step)]
+        } else {
+            [0; MOST_PLACES]
+        };
+        self.yield_places(step)
     }
 }

@@ -1,7 +1,7 @@
 //! A table answers as the net that it was last read from, also outside the net.
 use crate::net_table::NetTable;
 use nets::grid::GridNet;
-use nets::net::Net;
+use nets::net::{MOST_PLACES, Net};
 use refusals::Refusal;
 use std::test::Fail;
 
@@ -33,14 +33,15 @@ fn a_table_answers_as_its_net(rt: HostRuntime) -> Result<(), Fail> {
         (net.yield_at(1, 2), net.yield_at(1, 3), net.yield_at(2, 0)),
         (0, 0, 0)
     );
-    let yields = net.yields(1);
-    assert_eq!(rt; (yields[0], yields[1], yields[2]), (1, 5, 0));
-    let places = net.yield_places(1);
+    let mut row = [9; MOST_PLACES];
+    let places = net.read_yields(1, &mut row);
+    assert_eq!(rt; (row[0], row[1], row[2], row[63]), (1, 5, 0, 0));
     assert_eq!(rt;
         (places.has(0), places.has(1), places.has(2)),
         (true, true, false)
     );
-    assert_eq!(rt; net.yields(2)[0], 0);
+    assert!(rt; net.read_yields(2, &mut row).is_empty());
+    assert_eq!(rt; (row[0], row[1]), (0, 0));
     assert!(rt; net.yield_places(2).is_empty());
     Ok(())
 }
@@ -59,7 +60,9 @@ fn a_table_read_again_answers_as_the_later_net(rt: HostRuntime) -> Result<(), Fa
         ),
         (4, 0, 0)
     );
-    assert_eq!(rt; (table.yields(0)[2], table.yields(1)[1]), (0, 0));
+    let mut row = [9; MOST_PLACES];
+    assert!(rt; table.read_yields(0, &mut row).has(0));
+    assert_eq!(rt; (row[0], row[2]), (4, 0));
     assert!(rt; table.yield_places(1).is_empty());
     Ok(())
 }

@@ -1,3 +1,4 @@
+pub mod Added
 pub mod Bounds
 pub mod Rows
 pub mod Yielded

@@ -6,7 +6,7 @@ ghost use Rattle.theory.specs.Sums.{sum_to};
 ghost use Rattle.theory.specs.Tallies.{steps_asked};
 
 use crate::sums::sum_below;
-use nets::net::{MOST_STEPS, Net};
+use nets::net::{MOST_PLACES, MOST_STEPS, Net};
 
 /// How often a row has a step; 0 past its end.
 pub(crate) fn times(row: &[u16], step: u16) -> u16
@@ -39,9 +39,11 @@ pub fn yields_of<N: Net>(net: &N, step: u16) -> u32
     ensures answer { result ≡ yields_of (N.meaning net.now).net step }
     ensures bound { result < 2 ^ 14 }
 {
+    let mut row = [0; MOST_PLACES];
+    net.read_yields(step, &mut row);
     // `map` and `sum` of the row were tried: that the sum fits, since each term is a byte, stayed open.
     let mut sum = 0;
-    for blocks in &net.yields(step) {
+    for blocks in &row {
         sum += u32::from(*blocks);
     }
     sum

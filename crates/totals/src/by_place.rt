@@ -5,6 +5,7 @@ ghost use Rattle.theory.specs.Tallies.{spent, gained};
 
 use crate::asked::times;
 use nets::net::{MOST_PLACES, Net};
+use place_sets::PlaceSet;
 
 /// The blocks that the steps of the tally take from each place.
 pub fn spent_by_place<N: Net>(net: &N, tally: &[u16]) -> [u32; MOST_PLACES]
@@ -27,20 +28,22 @@ pub fn gained_by_place<N: Net>(net: &N, tally: &[u16]) -> [u32; MOST_PLACES]
     for step in 0..net.steps() {
         let times = times(tally, step);
         if times > 0 {
-            add_yields(&mut row, &net.yields(step), times);
+            add_yields(&mut row, net, step, times);
         }
     }
     row
 }
 
-/// Adds the yields of a step to a row, so many times.
-fn add_yields(row: &mut [u32; MOST_PLACES], yields: &[u8; MOST_PLACES], times: u16)
+/// Adds to a row what a step yields at each place, so many times.
+fn add_yields<N: Net>(row: &mut [u32; MOST_PLACES], net: &N, step: u16, times: u16)
     requires { (p : ℕ) → at row.old p < 2 ^ 31 }
-    ensures { (p : ℕ) → at row.new p ≡ at row.old p + times * at yields.now p }
+    ensures { (p : ℕ) → at row.new p ≡ at row.old p + times * (N.meaning net.now).net.yields step p }
 {
-    // by index: over `iter_mut` zipped with the yields, a proof would not know the row between two turns; both lengths
-    // are known, so this too becomes vector code
-    for place in 0..MOST_PLACES {
-        row[place] += u32::from(times) * u32::from(yields[place]);
+    // Most steps yield at few places, and only these are gone over.
+    let places = net.yield_places(step);
+    let mut done = PlaceSet::empty();
+    while let Some(place) = places.minus(done).first() {
+        row[usize::from(place)] += u32::from(times) * u32::from(net.yield_at(step, place));
+        done = done.with(place);
     }
 }
