@@ -3,3 +3,4 @@ pub mod Searching
 pub mod Reaching
 pub mod Turned
 pub mod SetRows
+pub mod Passed

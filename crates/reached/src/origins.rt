@@ -2,6 +2,7 @@
 ghost use Rattle.std.specs.Prelude.{◌≡◌, ℕ, ◌<◌, ◌≤◌, true, false, not, ◌&&◌, ◌||◌, ◌==◌, Decides, length};
 ghost use Rattle.place_sets.specs.Flags.{has};
 ghost use Rattle.reached.specs.Led.{OtherOrigin, has_at};
+ghost use Rattle.theory.specs.Rows.{at};
 
 use crate::search::reached_from;
 use nets::net::MOST_PLACES;
@@ -20,16 +21,24 @@ pub struct Origins {
 }
 
 impl Origins {
-    /// The origins of each place, where `leads` has for each place where it leads at once.
-    pub fn new(leads: &[PlaceSet; MOST_PLACES]) -> Origins
-        ensures before { (p q : ℕ) → p < 64 → has_at result.before p q ≡ has_at leads.now q p }
-        ensures past { (p q : ℕ) → 64 ≤ p → has_at result.before p q ≡ false }
+    /// No place is reached from another.
+    pub fn new() -> Origins
+        ensures { (p : ℕ) → at result.before p ≡ 0 }
     {
         Origins {
-            before: turned(leads),
+            before: [PlaceSet::empty(); MOST_PLACES],
             above: [PlaceSet::empty(); MOST_PLACES],
             known: PlaceSet::empty(),
         }
+    }
+
+    /// The given places are reached at once from the origin too.
+    pub fn add(&mut self, places: PlaceSet, origin: u8)
+        requires { origin < 64 }
+        ensures { (p q : ℕ) → has_at self.new.before p q ≡ (has_at self.old.before p q || (has places p && q == origin)) }
+    {
+        self.known = PlaceSet::empty();
+        put_in(&mut self.before, places, origin);
     }
 
     /// The other places from which the place is reached.
@@ -58,29 +67,16 @@ impl Origins {
     }
 }
 
-/// For each place those that have it, of a row that has for each place some places.
-fn turned(leads: &[PlaceSet; MOST_PLACES]) -> [PlaceSet; MOST_PLACES]
-    ensures answer { (p q : ℕ) → p < 64 → has_at result p q ≡ has_at leads.now q p }
-    ensures past { (p q : ℕ) → 64 ≤ p → has_at result p q ≡ false }
-{
-    let mut before = [PlaceSet::empty(); MOST_PLACES];
-    // a constant that fits, so the cast keeps it
-    for place in 0..MOST_PLACES as u8 {
-        put_in(&mut before, leads[usize::from(place)], place);
-    }
-    before
-}
-
 /// Adds the origin at each of the places.
 fn put_in(before: &mut [PlaceSet; MOST_PLACES], places: PlaceSet, origin: u8)
     requires { origin < 64 }
-    ensures added { (p q : ℕ) → p < 64 → has_at before.new p q ≡ (has_at before.old p q || (has places p && q == origin)) }
-    ensures long { length before.new ≡ length before.old }
+    ensures { (p q : ℕ) → has_at before.new p q ≡ (has_at before.old p q || (has places p && q == origin)) }
 {
-    let mut done = PlaceSet::empty();
-    while let Some(place) = places.minus(done).first() {
-        before[usize::from(place)] = before[usize::from(place)].with(origin);
-        done = done.with(place);
+    let mut rest = places;
+    while let Some(place) = rest.first() {
+        let row = usize::from(place);
+        before[row] = before[row].with(origin);
+        rest = rest.without_first();
     }
 }
 
@@ -88,9 +84,10 @@ fn put_in(before: &mut [PlaceSet; MOST_PLACES], places: PlaceSet, origin: u8)
 fn take_out(before: &mut [PlaceSet; MOST_PLACES], places: PlaceSet, origin: u8)
     ensures { (p q : ℕ) → has_at before.new p q ≡ (has_at before.old p q && not (has places p && q == origin)) }
 {
-    let mut done = PlaceSet::empty();
-    while let Some(place) = places.minus(done).first() {
-        before[usize::from(place)] = before[usize::from(place)].without(origin);
-        done = done.with(place);
+    let mut rest = places;
+    while let Some(place) = rest.first() {
+        let row = usize::from(place);
+        before[row] = before[row].without(origin);
+        rest = rest.without_first();
     }
 }

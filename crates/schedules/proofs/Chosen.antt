@@ -1,6 +1,6 @@
 -- What the checks of a step say of the net, the marking and the tally that the schedule shows.
-use Rattle.std.proofs.Common.{◌≡◌, ℕ, ◌<◌, ◌≤◌, Bool, true, false, not, ◌&&◌, ◌||◌, eqb, ltb, Some, None, Decides, sym, refl, ap, ◌∙◌, subst, inl, inr, arith}
-use Rattle.std.proofs.lemmas.Bool.{cases_Bool, cases_eq, ltb-true, ltb-false, lt-ltb, eqb-true, eq-eqb, and_parts, and_from, or_cases, or_parts}
+use Rattle.std.proofs.Common.{◌≡◌, ℕ, ◌<◌, ◌≤◌, Bool, true, false, not, ◌&&◌, ◌||◌, eqb, ltb, Some, None, Option, is_some, MatchOption, Decides, sym, refl, ap, ◌∙◌, subst, inl, inr, arith}
+use Rattle.std.proofs.lemmas.Bool.{cases_Bool, cases_eq, both_ways, not-true, not-false, ltb-true, ltb-false, lt-ltb, eqb-true, eqb-false, eq-eqb, and_parts, and_cases, and_from, or_cases, or_parts}
 use Rattle.theory.specs.Nets.{NetMeaning, NetLaw}
 use Rattle.theory.specs.Rows.{at}
 use Rattle.theory.specs.Firing.{Marking, fired}
@@ -8,7 +8,7 @@ use Rattle.theory.specs.Tallies.{Tally, NoPlaceCutOff}
 use Rattle.theory.specs.Tests.{least, safe}
 use Rattle.theory.proofs.TallySums.{one_same, one_other}
 use Rattle.theory.specs.Orders.{less}
-use Rattle.place_sets.specs.Flags.{has}
+use Rattle.place_sets.specs.Flags.{has, Empty, IsFirst}
 use Rattle.schedules.specs.declared.schedule.Schedule.{Schedule}
 use Rattle.reached.specs.Led.{Led, has_at}
 use Rattle.theory.proofs.Decided.{least_found, none_found}
@@ -31,9 +31,8 @@ module _ (N : NetMeaning) (law : NetLaw N) (m : Marking) (x : Tally) (s : Schedu
 
   keeps_shown : keeps_in s t ≡ (ltb 1 (m p) || ltb 0 (N.yields t p))
   keeps_shown =
-      ap (λ (v : ℕ). has s.many v || has_at s.yields t v) (h.inputs t)
-      ∙ ap (λ (v : Bool). v || has_at s.yields t p)
-      (h.many p ∙ ap (λ (v : Bool). v && ltb 1 (m p)) (lt-ltb p N.places (law.inputs_inside t l)))
+      ap (λ (v : ℕ). ltb 1 (at s.counts v) || has_at s.yields t v) (h.inputs t)
+      ∙ ap (λ (v : ℕ). ltb 1 v || has_at s.yields t p) (h.counts p)
       ∙ ap (λ (v : Bool). ltb 1 (m p) || v) (h.yields t p)
 
   -- the steps in the row of takers, at the input place
@@ -60,6 +59,12 @@ module _ (N : NetMeaning) (law : NetLaw N) (m : Marking) (x : Tally) (s : Schedu
 
     pub holds : 0 < m p
     holds = ltb-true 0 (m p) (and_parts (ltb 0 (x t)) (ltb 0 (m p)) (sym ready_shown ∙ ready)).1
+
+    -- it is among those that take at its input place
+    pub takes_there : has_at s.takers (at s.inputs t) t ≡ true
+    takes_there =
+        taker_shown t
+        ∙ and_from (is_left N x t) (eqb p p) (and_from (ltb t N.steps) (ltb 0 (x t)) (lt-ltb t N.steps l) (lt-ltb 0 (x t) is_there)) (eq-eqb p p refl)
 
   module _ (ready : has s.ready t ≡ true) (none : NoPlaceCutOff N m x) where
     pub safe_keeps : keeps_in s t ≡ true → safe N m x t ≡ true
@@ -123,13 +128,11 @@ a_step N m x s h t e =
 -- a schedule that differs at most in what searches found shows the same
 pub shows_kept : (N : NetMeaning) (m : Marking) (x : Tally) (s s' : Schedule) → Kept s s' → Shows N m x s → Shows N m x s'
 shows_kept N m x s s' k h = record {
-  steps = k.steps ∙ h.steps;
   left = λ u j. ap (λ row. at row u) k.left ∙ h.left u j;
   inputs = λ u. ap (λ row. at row u) k.inputs ∙ h.inputs u;
   yields = λ u p. ap (λ row. has_at row u p) k.yields ∙ h.yields u p;
-  twice = λ u p. ap (λ row. has_at row u p) k.twice ∙ h.twice u p;
+  counts = λ p. ap (λ row. at row p) k.counts ∙ h.counts p;
   marked = λ p. ap (λ set. has set p) k.marked ∙ h.marked p;
-  many = λ p. ap (λ set. has set p) k.many ∙ h.many p;
   before = λ p q. ap (λ row. has_at row p q) k.before ∙ h.before p q;
   ready = record {
     takers = λ p u. ap (λ row. has_at row p u) k.takers ∙ h.ready.takers p u;
@@ -139,13 +142,11 @@ shows_kept N m x s s' k h = record {
 
 pub kept_both : (s s' s₂ : Schedule) → Kept s s' → Kept s' s₂ → Kept s s₂
 kept_both s s' s₂ k l = record {
-  steps = l.steps ∙ k.steps;
   left = l.left ∙ k.left;
   inputs = l.inputs ∙ k.inputs;
   yields = l.yields ∙ k.yields;
-  twice = l.twice ∙ k.twice;
+  counts = l.counts ∙ k.counts;
   marked = l.marked ∙ k.marked;
-  many = l.many ∙ k.many;
   ready = l.ready ∙ k.ready;
   takers = l.takers ∙ k.takers;
   before = l.before ∙ k.before;
@@ -158,3 +159,40 @@ told_before s s' k t u e b told = record {
       let T : ℕ → Type 0 = λ z. z < N.steps → b ≡ safe N m x z in
       subst T (sym e) (told.told N m x law (shows_kept N m x s s' k h) none) l;
 }
+
+-- the first of a set that has a step
+first_of : (w t : ℕ) → t < 128 → has w t ≡ true → (k : ℕ) × IsFirst 128 w k
+first_of w t l h = from (least (has w) 128) refl
+  where
+    from : (o : Option ℕ) → least (has w) 128 ≡ o → (k : ℕ) × IsFirst 128 w k
+    from None e = absurd (both_ways (has w t) ((none_found (has w) 128).0 e t l) h)
+    from (Some k) e = let f = (least_found (has w) 128 k).0 e in (k, record { inside = f.0; in_it = f.1; least = f.2 })
+
+-- a step that is left once and takes at its place: what is left of those that take there without the first of them tells
+-- whether it is the only one
+pub last_told : (s : Schedule) (t : ℕ) → t < 128 → at s.left t ≡ 1 → (w w' : ℕ) → w ≡ at s.takers (at s.inputs t) → has w t ≡ true →
+    ((k : ℕ) → IsFirst 128 w k → (u : ℕ) → has w' u ≡ (has w u && not (eqb u k))) →
+    (o : Option ℕ) → MatchOption o (Empty w') (IsFirst 128 w') → TakesLast s t (not (is_some o))
+last_told s t l once w w' row there less None none = (
+  once,
+  λ u h. is_first u (ap (λ (v : ℕ). has v u) row ∙ h) ∙ sym (is_first t there),
+)
+  where
+    k : (k : ℕ) × IsFirst 128 w k
+    k = first_of w t l there
+
+    is_first : (u : ℕ) → has w u ≡ true → u ≡ k.0
+    is_first u h = elim (and_cases (has w u) (not (eqb u k.0)) (sym (less k.0 k.1 u) ∙ none u)) [
+      | inl f ↦ absurd (both_ways (has w u) f h)
+      | inr f ↦ eqb-true u k.0 (not-false (eqb u k.0) f)
+    ]
+last_told s t l once w w' row there less (Some u) f = inr (elim (cases_eq k.0 t) [
+  | inl same ↦ (u, ap (λ (v : ℕ). has v u) (sym row) ∙ both.0, λ e. eqb-false u k.0 (not-true (eqb u k.0) both.1) (e ∙ sym same))
+  | inr other ↦ (k.0, ap (λ (v : ℕ). has v k.0) (sym row) ∙ k.1.in_it, other)
+])
+  where
+    k : (k : ℕ) × IsFirst 128 w k
+    k = first_of w t l there
+
+    both : (has w u ≡ true) × (not (eqb u k.0) ≡ true)
+    both = and_parts (has w u) (not (eqb u k.0)) (sym (less k.0 k.1 u) ∙ f.in_it)

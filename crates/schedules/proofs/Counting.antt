@@ -20,13 +20,11 @@ use Rattle.schedules.proofs.Added.{same_truth, step_find, step_from}
 
 -- the two differ only in that one less of t is left
 pub record CountedDown (s : Schedule) (t : ℕ) (s' : Schedule) : Type 0 where
-  pub steps : s'.steps ≡ s.steps
   pub left : s'.left ≡ set s.left t (at s.left t - 1)
   pub inputs : s'.inputs ≡ s.inputs
   pub yields : s'.yields ≡ s.yields
-  pub twice : s'.twice ≡ s.twice
+  pub counts : s'.counts ≡ s.counts
   pub marked : s'.marked ≡ s.marked
-  pub many : s'.many ≡ s.many
   pub ready : s'.ready ≡ s.ready
   pub takers : s'.takers ≡ s.takers
   pub before : s'.origins.before ≡ s.origins.before
@@ -117,13 +115,11 @@ module _ (N : NetMeaning) (law : NetLaw N) (m : Marking) (x : Tally) (s : Schedu
   -- more of the step is left
   pub shows_more_left : 1 < x t → Shows N m (less x t) counted
   shows_more_left two = record {
-    steps = c.steps ∙ h.steps;
     left = left_after;
     inputs = λ u. ap (λ row. at row u) c.inputs ∙ h.inputs u;
     yields = λ u p. ap (λ row. has_at row u p) c.yields ∙ h.yields u p;
-    twice = λ u p. ap (λ row. has_at row u p) c.twice ∙ h.twice u p;
+    counts = λ p. ap (λ row. at row p) c.counts ∙ h.counts p;
     marked = λ p. ap (λ set. has set p) c.marked ∙ h.marked p;
-    many = λ p. ap (λ set. has set p) c.many ∙ h.many p;
     before = λ p q. ap (λ row. has_at row p q) c.before ∙ (h.before p q ∙ sym (leads_less q (inr two) p));
     ready = readied_alike (is_left N x) (is_left N (less x t)) N.input counted (left_more two) (record {
       takers = λ p u. ap (λ row. has_at row p u) c.takers ∙ h.ready.takers p u;
@@ -242,13 +238,11 @@ module _ (N : NetMeaning) (law : NetLaw N) (m : Marking) (x : Tally) (s : Schedu
 
     pub shows_last_gone : Shows N m (less x t) s'
     shows_last_gone = record {
-      steps = f.steps ∙ (c.steps ∙ h.steps);
       left = λ u j. ap (λ row. at row u) f.left ∙ left_after u j;
       inputs = λ u. ap (λ row. at row u) (f.inputs ∙ c.inputs) ∙ h.inputs u;
       yields = λ u p. ap (λ row. has_at row u p) (f.yields ∙ c.yields) ∙ h.yields u p;
-      twice = λ u p. ap (λ row. has_at row u p) (f.twice ∙ c.twice) ∙ h.twice u p;
+      counts = λ p. ap (λ row. at row p) (f.counts ∙ c.counts) ∙ h.counts p;
       marked = λ p. ap (λ set. has set p) (f.marked ∙ c.marked) ∙ h.marked p;
-      many = λ p. ap (λ set. has set p) (f.many ∙ c.many) ∙ h.many p;
       before = before_now;
       ready = readied_alike (λ u. is_left N x u && not (eqb u t)) (is_left N (less x t)) N.input s' (left_none once) (record {
         takers = takers_now;

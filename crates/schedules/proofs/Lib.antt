@@ -2,6 +2,7 @@ mod Added
 mod Rows
 mod Marked
 mod Moved
+mod Reading
 mod Counting
 mod SafeFirings
 pub mod Chosen

@@ -15,16 +15,14 @@ use Rattle.schedules.specs.Tables.{Readied}
 abbrev pub is_left : NetMeaning → Tally → ℕ → Bool
 is_left N x t = nat_lt t N.steps && nat_lt 0 (x t)
 
--- the schedule shows the net, the marking and the tally; no `impl Model`, as the tables tell of a marking only where blocks
--- lie and where more than one, and of a net and a tally only below the number of steps
+-- the schedule shows the net, the marking and the tally; no `impl Model`, as the tables tell of a net and a tally only
+-- below the number of steps
 pub record Shows (N : NetMeaning) (m : Marking) (x : Tally) (s : Schedule) : Type 0 where
-  pub steps : s.steps ≡ N.steps
   pub left : (t : ℕ) → t < N.steps → at s.left t ≡ x t
   pub inputs : (t : ℕ) → at s.inputs t ≡ N.input t
   pub yields : (t p : ℕ) → has_at s.yields t p ≡ nat_lt 0 (N.yields t p)
-  pub twice : (t p : ℕ) → has_at s.twice t p ≡ nat_lt 1 (N.yields t p)
+  pub counts : (p : ℕ) → at s.counts p ≡ m p
   pub marked : (p : ℕ) → has s.marked p ≡ (nat_lt p N.places && nat_lt 0 (m p))
-  pub many : (p : ℕ) → has s.many p ≡ (nat_lt p N.places && nat_lt 1 (m p))
   pub before : (p q : ℕ) → has_at s.origins.before p q ≡ leads_to N x q p
   pub ready : Readied (is_left N x) N.input s
 
@@ -35,9 +33,3 @@ WhereShown s P = (N : NetMeaning) (m : Marking) (x : Tally) → NetLaw N → Sho
 -- b says whether t is safe, where no place is cut off
 pub record TellsSafe (s : Schedule) (t : ℕ) (b : Bool) : Type 0 where
   pub told : WhereShown s (λ N m x. NoPlaceCutOff N m x → t < N.steps → b ≡ safe N m x t)
-
--- t is a step of the net, is left in the tally, and finds a block
-pub record Ready (N : NetMeaning) (m : Marking) (x : Tally) (t : ℕ) : Type 0 where
-  pub a_step : t < N.steps
-  pub left : 0 < x t
-  pub holds : 0 < m (N.input t)

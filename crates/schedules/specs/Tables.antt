@@ -1,10 +1,17 @@
 -- What the tables of a schedule say by themselves.
-use Rattle.std.specs.Prelude.{◌≡◌, ℕ, Bool, true, false, not, ◌&&◌, ◌||◌, ◌⊎◌, ◌==◌}
+use Rattle.std.specs.Prelude.{◌≡◌, ℕ, Bool, true, false, not, ◌&&◌, ◌||◌, ◌⊎◌, ◌==◌, nat_lt}
 use Rattle.theory.specs.Rows.{at}
 use Rattle.theory.specs.Tests.{any_below}
 use Rattle.place_sets.specs.Flags.{has}
 use Rattle.reached.specs.Led.{has_at}
 use Rattle.schedules.specs.declared.schedule.Schedule.{Schedule}
+
+-- a schedule of nothing
+pub record Fresh (s : Schedule) : Type 0 where
+  pub inputs : (t : ℕ) → at s.inputs t ≡ 0
+  pub yields : (t : ℕ) → at s.yields t ≡ 0
+  pub takers : (p : ℕ) → at s.takers p ≡ 0
+  pub before : (p : ℕ) → at s.origins.before p ≡ 0
 
 -- the place at which the step t takes
 abbrev pub input_in : Schedule → ℕ → ℕ
@@ -16,7 +23,7 @@ yields_in s t p = has_at s.yields t p
 
 -- the input place of t holds a block after t: it has another, or t yields there
 abbrev pub keeps_in : Schedule → ℕ → Bool
-keeps_in s t = has s.many (at s.inputs t) || has_at s.yields t (at s.inputs t)
+keeps_in s t = nat_lt 1 (at s.counts (at s.inputs t)) || has_at s.yields t (at s.inputs t)
 
 -- p holds a block after t took the last one at its input place
 abbrev pub marked_after : Schedule → ℕ → ℕ → Bool
@@ -29,13 +36,11 @@ TakesLast s t false = (at s.left t ≡ 1 → ⊥) ⊎ ((u : ℕ) × (has_at s.ta
 
 -- the two differ at most in what searches found
 pub record Kept (s s' : Schedule) : Type 0 where
-  pub steps : s'.steps ≡ s.steps
   pub left : s'.left ≡ s.left
   pub inputs : s'.inputs ≡ s.inputs
   pub yields : s'.yields ≡ s.yields
-  pub twice : s'.twice ≡ s.twice
+  pub counts : s'.counts ≡ s.counts
   pub marked : s'.marked ≡ s.marked
-  pub many : s'.many ≡ s.many
   pub ready : s'.ready ≡ s.ready
   pub takers : s'.takers ≡ s.takers
   pub before : s'.origins.before ≡ s.origins.before
@@ -47,14 +52,22 @@ pub record Readied (left : ℕ → Bool) (input : ℕ → ℕ) (s : Schedule) : 
 
 -- the two differ at most in which places are marked and which steps are ready, and these agree as before
 pub record KeepsReady (s s' : Schedule) : Type 0 where
-  pub steps : s'.steps ≡ s.steps
   pub left : s'.left ≡ s.left
   pub inputs : s'.inputs ≡ s.inputs
   pub yields : s'.yields ≡ s.yields
-  pub twice : s'.twice ≡ s.twice
-  pub many : s'.many ≡ s.many
+  pub counts : s'.counts ≡ s.counts
   pub before : s'.origins.before ≡ s.origins.before
   pub ready : (left : ℕ → Bool) (input : ℕ → ℕ) → Readied left input s → Readied left input s'
+
+-- t is among the steps that are left, if it is to be done
+pub record Asked (s : Schedule) (t : ℕ) (s' : Schedule) : Type 0 where
+  pub left : s'.left ≡ s.left
+  pub inputs : s'.inputs ≡ s.inputs
+  pub yields : s'.yields ≡ s.yields
+  pub counts : s'.counts ≡ s.counts
+  pub marked : s'.marked ≡ s.marked
+  pub takers : (p u : ℕ) → has_at s'.takers p u ≡ (has_at s.takers p u || (nat_lt 0 (at s.left t) && (p == at s.inputs t && u == t)))
+  pub before : (p q : ℕ) → has_at s'.origins.before p q ≡ (has_at s.origins.before p q || (nat_lt 0 (at s.left t) && (has_at s.yields t p && q == at s.inputs t)))
 
 -- some step that a net may have passes the test
 unfoldable pub any_step : (ℕ → Bool) → Bool
@@ -67,13 +80,11 @@ lost_by s t p =
 
 -- t is taken out of the steps that are left
 pub record Finished (s : Schedule) (t : ℕ) (s' : Schedule) : Type 0 where
-  pub steps : s'.steps ≡ s.steps
   pub left : s'.left ≡ s.left
   pub inputs : s'.inputs ≡ s.inputs
   pub yields : s'.yields ≡ s.yields
-  pub twice : s'.twice ≡ s.twice
+  pub counts : s'.counts ≡ s.counts
   pub marked : s'.marked ≡ s.marked
-  pub many : s'.many ≡ s.many
   pub takers : (p u : ℕ) → has_at s'.takers p u ≡ (has_at s.takers p u && not (p == at s.inputs t && u == t))
   pub ready : (u : ℕ) → has s'.ready u ≡ (has s.ready u && not (u == t))
   pub before : (p q : ℕ) → has_at s'.origins.before p q ≡ (has_at s.origins.before p q && not (lost_by s t p && q == at s.inputs t))

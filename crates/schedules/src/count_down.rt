@@ -2,7 +2,7 @@
 ghost use Rattle.std.specs.Prelude.{◌≡◌, ℕ, ◌<◌, ◌&&◌};
 ghost use Rattle.place_sets.specs.Flags.{has};
 ghost use Rattle.reached.specs.Led.{has_at};
-ghost use Rattle.schedules.specs.Shows.{Shows, WhereShown, Ready};
+ghost use Rattle.schedules.specs.Shows.{Shows, WhereShown};
 ghost use Rattle.schedules.specs.Tables.{Finished, any_step};
 ghost use Rattle.theory.specs.Orders.{less};
 
@@ -11,20 +11,21 @@ use place_sets::PlaceSet;
 use step_sets::StepSet;
 
 impl Schedule {
-    /// Leaves one less of a step.
+    /// Leaves one less of a step that is left.
     pub(crate) fn count_down(&mut self, step: u16)
         requires { step < 128 }
-        ensures { WhereShown self.old (λ N m x. Ready N m x step → Shows N m (less x step) self.new) }
+        ensures { WhereShown self.old (λ N m x. step < N.steps → 0 < x step → Shows N m (less x step) self.new) }
     {
-        let left = self.times_left(step);
-        self.left[usize::from(step)] = left.saturating_sub(1);
-        if left == 1 {
+        let left = self.left[usize::from(step)].wrapping_sub(1);
+        self.left[usize::from(step)] = left;
+        if left == 0 {
             self.finish(step);
         }
     }
 
     /// Takes a step out that was done for the last time.
     fn finish(&mut self, step: u16)
+        requires { step < 128 }
         ensures { Finished self.old step self.new }
     {
         let place = self.input(step);
@@ -40,10 +41,10 @@ impl Schedule {
         ensures { (p : ℕ) → has result p ≡ any_step (λ t. has steps t && has_at self.now.yields t p) }
     {
         let mut places = PlaceSet::empty();
-        let mut done = StepSet::empty();
-        while let Some(step) = steps.minus(done).first() {
+        let mut rest = steps;
+        while let Some(step) = rest.first() {
             places = places.union(self.yields(step));
-            done = done.with(step);
+            rest = rest.without_first();
         }
         places
     }

@@ -59,7 +59,8 @@ impl StepSet {
 
     /// The set without one of its steps.
     pub fn without(self, step: u16) -> StepSet
-        ensures { (t : ℕ) → has result t ≡ (has self t && not (t == step)) }
+        ensures answer { (t : ℕ) → has result t ≡ (has self t && not (t == step)) }
+        ensures inside { (t : ℕ) → 128 ≤ t → has result t ≡ false }
     {
         self.minus(StepSet::empty().with(step))
     }
@@ -78,7 +79,8 @@ impl StepSet {
 
     /// The steps of either set.
     pub fn union(self, other: StepSet) -> StepSet
-        ensures { (t : ℕ) → has result t ≡ (has self t || has other t) }
+        ensures answer { (t : ℕ) → has result t ≡ (has self t || has other t) }
+        ensures inside { (t : ℕ) → 128 ≤ t → has result t ≡ false }
     {
         StepSet {
             word: self.word | other.word,

@@ -19,7 +19,7 @@ returns-clause-answer c =
     let above : ℕ → Bool = λ q. eqb q p || others q in
     let all = with_itself (has_at s.origins.before) p others found in
     let held : (q : ℕ) → has c.union-held.result q ≡ (has s.marked q || has_at s.yields t q) =
-    λ q. c.union-held.ensures q ∙ ap (λ (v : Bool). has s.marked q || v) (c.yields.ensures.table q) in (
+    λ q. c.union-held.ensures q ∙ ap (λ (v : Bool). has s.marked q || v) (c.yields.ensures q) in (
       λ e.
           let w = c.meets.ensures.0 e in
           let far = ((found w.0).0 w.2).1 in
@@ -34,7 +34,7 @@ returns-clause-answer c =
         | inl e ↦ e
         | inr e ↦ absurd (led_only_from leads (has_at s.origins.before) (λ z q. refl) (marked_after s t) p above all
             (λ q h a. elim (or_cases (eqb q p) (others q) a) [
-              | inl same ↦ both_ways (marked_after s t p) (here s t p c.requires) (ap (marked_after s t) (sym (eqb-true q p same)) ∙ h)
+              | inl same ↦ both_ways (marked_after s t p) (here s t p c.requires.none) (ap (marked_after s t) (sym (eqb-true q p same)) ∙ h)
               | inr o ↦ both_ways c.meets.result e (c.meets.ensures.1 (q, held q ∙ still s t q h, o))
             ]) r)
       ],

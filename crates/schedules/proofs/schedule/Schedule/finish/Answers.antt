@@ -19,26 +19,24 @@ returns c =
     let l : c.from.result < length s.takers = omega (arith, c.from.ensures, c.input-place.ensures.inside) in
     let l2 : c.from-2.result < length s.takers = omega (arith, c.from-2.ensures, c.input-place.ensures.inside) in
     let others : (u : ℕ) → has c.without-others.result u ≡ (has_at s.takers place u && not (eqb u t)) =
-    λ u. c.without-others.ensures u
+    λ u. c.without-others.ensures.answer u
     ∙ ap (λ (v : ℕ). has v u && not (eqb u t)) (get_or_default_zero s.takers c.from.result c.index-self-from.result l ∙ ap (at s.takers) i) in
     record {
-      steps = refl;
       left = refl;
       inputs = refl;
       yields = refl;
-      twice = refl;
+      counts = refl;
       marked = refl;
-      many = refl;
       takers = λ p u.
           reduced s.takers c.from-2.result c.without-others.result (λ v. eqb v t) l2
           (λ v. others v ∙ ap (λ (q : ℕ). has_at s.takers q v && not (eqb v t)) (sym j)) p u
           ∙ ap (λ (q : ℕ). has_at s.takers p u && not (eqb p q && eqb u t)) j;
-      ready = c.without-self.ensures;
+      ready = c.without-self.ensures.answer;
       before = λ p q.
           c.lose.ensures p q
           ∙ ap (λ (v : Bool). has_at s.origins.before p q && not (v && eqb q c.input-place.result))
           (c.minus-lost.ensures.answer p
-          ∙ ap (λ (v : Bool). v && not (has c.yields_of.result p)) (c.yields.ensures.table p)
+          ∙ ap (λ (v : Bool). v && not (has c.yields_of.result p)) (c.yields.ensures p)
           ∙ ap (λ (v : Bool). has_at s.yields t p && not v)
           (c.yields_of.ensures p
           ∙ step_alike (λ u. has c.without-others.result u && has_at s.yields u p) (λ u. (has_at s.takers place u && not (eqb u t)) && has_at s.yields u p)

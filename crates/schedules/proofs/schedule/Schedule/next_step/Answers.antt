@@ -5,8 +5,8 @@ use Rattle.schedules.proofs.Chosen.{none_safe, least_safe, a_step, shows_kept, k
 use Rattle.place_sets.proofs.LeastFlag.{some_not_zero}
 use Rattle.schedules.proofs.schedule.Schedule.next_step.Goals as goal
 
-pub is_safe-requires : goal.is_safe-requires
-is_safe-requires c =
+pub is_safe-requires-clause-ready : goal.is_safe-requires-clause-ready
+is_safe-requires-clause-ready c =
     ap (λ set. has set c.in-Some.step) c.loop-step.invariant.0.ready ∙ c.loop-step.invariant.1 c.in-Some.step c.in-Some.ensures.cases.in_it
 
 pub loop-step-smaller : goal.loop-step-smaller
