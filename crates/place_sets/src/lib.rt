@@ -80,6 +80,18 @@ impl PlaceSet {
         self.minus(PlaceSet::empty().with(place))
     }
 
+    /// The set without its least place.
+    pub fn without_first(self) -> PlaceSet
+        ensures answer { (k : ℕ) → IsFirst 64 self k → (p : ℕ) → has result p ≡ (has self p && not (p == k)) }
+        ensures none { Empty self → Empty result }
+        ensures shrinks { 0 < self → result < self }
+    {
+        // the word less 1 differs from it in its lowest 1 and the zeros below
+        PlaceSet {
+            word: self.word & self.word.wrapping_sub(1),
+        }
+    }
+
     /// The places of either set.
     pub fn union(self, other: PlaceSet) -> PlaceSet
         ensures { (p : ℕ) → has result p ≡ (has self p || has other p) }
