@@ -1,3 +1,4 @@
+pub mod Accepted
 pub mod Going
 pub mod CutOffs
 pub mod Turns

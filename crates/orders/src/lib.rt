@@ -1,4 +1,4 @@
-//! Orders: the first order of a tally, fired on a board and written down.
+//! Orders: the first order of a tally, written down and fired on a board.
 #![tactic(auto)]
 
 ghost use Rattle.answers.specs.Answers.{resume_refusal};
@@ -13,10 +13,10 @@ use boards::board::Board;
 use calls::all_counts;
 use causes::check_causes;
 use checks::{Target, check_sizes};
-use first_order::fire_first_order;
+use firings::whole_order::move_order;
+use first_order::write_first_order;
 use nets::net::Net;
 use refusals::Refusal;
-use schedules::schedule::Schedule;
 use totals::finals::Asked;
 use totals::flow::Flow;
 
@@ -47,6 +47,7 @@ pub fn fire_tally<N: Net, B: Board>(
     let counts = all_counts(board);
     let asked = Asked::new(&flow, &counts, target.numbers, kind);
     check_causes(&asked)?;
-    let mut schedule = Schedule::new(net, &counts, tally);
-    Ok(fire_first_order(net, board, &mut schedule, tally, memory))
+    let length = write_first_order(net, &counts, tally, memory);
+    move_order(&flow, board, &memory[..length]);
+    Ok(length)
 }

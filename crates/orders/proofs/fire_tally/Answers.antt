@@ -1,12 +1,16 @@
-use Rattle.std.proofs.Common.{◌≡◌, length, None, Some, Err, ap, ◌∙◌, rules}
+use Rattle.std.proofs.Common.{◌≡◌, ◌+◌, ◌-◌, length, take, None, Some, Err, ap, ◌∙◌, rules}
 use Rattle.theory.specs.Rows.{at}
+use Rattle.theory.specs.Firing.{after}
+use Rattle.theory.specs.Tallies.{steps_asked}
+use Rattle.answers.specs.States.{yields_asked}
+use Rattle.answers.proofs.Resumes.{fits_now}
 use Rattle.checks.specs.Held.{held, target_of}
-use Rattle.answers.specs.Answers.{size_refusal, cause_refusal, the_order}
+use Rattle.answers.specs.Answers.{size_refusal, cause_refusal}
 use Rattle.answers.proofs.Answered.{refused_with, accepted_with}
 use Rattle.answers.proofs.Options.{or_first, or_second}
-use Rattle.answers.proofs.Resumes.{such_now, fits_now}
 use Rattle.orders.proofs.Checked.{sizes_as_asked, causes_as_asked, accepted_as_asked}
 use Rattle.orders.proofs.Leaves.{refused_tally, accepted_tally}
+use Rattle.orders.proofs.Accepted.{can_be_done, counts_fit, found_long, found_written, front_order, front_does, front_few}
 use Rattle.orders.proofs.fire_tally.Goals as goal
 
 pub returns-in_err-kind : goal.returns-in_err-kind
@@ -47,47 +51,74 @@ returns-in_err-check_causes g c =
     refused_tally N (held H R a.done.now) tally T memory e c.from_residual-in_err-check_causes.result said
     (or_second (size_refusal N (held H R a.done.now) tally T (length memory)) (cause_refusal N H (at tally) T) e size cause)
 
-pub fire_first_order-requires : goal.fire_first_order-requires
-fire_first_order-requires g c =
+pub write_first_order-length-requires : goal.write_first_order-length-requires
+write_first_order-length-requires g c =
     let a = c.args in
     let N = g.N.Net.meaning a.net.now in
     let H = g.B.Board.counts a.board.now in
     let R = g.B.Board.spare a.board.now in
-    let s = held H R a.done.now in
     let T = target_of a.target.numbers.now a.target.kind in
-    let memory = length a.memory.now in
     let q = c.new-asked.result in
     let checked = c.in_ok-kind.ensures H in
     let none =
-    accepted_as_asked N.net H R a.done.now a.tally.now a.target.numbers.now a.target.kind memory
+    accepted_as_asked N.net H R a.done.now a.tally.now a.target.numbers.now a.target.kind (length a.memory.now)
     (g.N.Net.meaning q.net.now).net q.counts.now q.tally.now q.target.now c.in_ok-kind.kind q.kind
     (ap (λ z. (g.N.Net.meaning z).net) (c.new-asked.ensures.net ∙ c.of-flow.ensures.net)) (λ p. ap (λ z. at z p) c.new-asked.ensures.counts ∙ c.all_counts-counts.ensures.answer p)
     (c.new-asked.ensures.tally ∙ c.of-flow.ensures.tally) c.new-asked.ensures.target c.new-asked.ensures.kind checked.1
     c.spare.result c.spare.ensures.answer checked.0 (accepted_with _ tt tt c.in_ok-check_causes.ensures) in
-    let fits = fits_now N.net N.law s a.tally.now T memory none in
     record {
-      shows = search rules;
-      can = (the_order N.net s a.tally.now, (such_now N.net N.law s a.tally.now T memory none).0);
-      room = fits.spare_holds;
-      long = fits.memory_holds;
+      can = can_be_done N.net N.law H R (g.met.B.Board.bounded a.board.now) (g.met.B.Board.outside a.board.now) a.done.now a.tally.now T a.memory.now none c.all_counts-counts.result c.all_counts-counts.ensures.answer;
+      fits = counts_fit N.net N.law H R (g.met.B.Board.bounded a.board.now) (g.met.B.Board.outside a.board.now) a.done.now a.tally.now T a.memory.now none c.all_counts-counts.result c.all_counts-counts.ensures.answer;
+      long = (fits_now N.net N.law (held H R a.done.now) a.tally.now T (length a.memory.now) none).memory_holds;
+    }
+
+pub move_order-requires : goal.move_order-requires
+move_order-requires g c =
+    let a = c.args in
+    let N = g.N.Net.meaning a.net.now in
+    let H = g.B.Board.counts a.board.now in
+    let R = g.B.Board.spare a.board.now in
+    let T = target_of a.target.numbers.now a.target.kind in
+    let q = c.new-asked.result in
+    let checked = c.in_ok-kind.ensures H in
+    let none =
+    accepted_as_asked N.net H R a.done.now a.tally.now a.target.numbers.now a.target.kind (length a.memory.now)
+    (g.N.Net.meaning q.net.now).net q.counts.now q.tally.now q.target.now c.in_ok-kind.kind q.kind
+    (ap (λ z. (g.N.Net.meaning z).net) (c.new-asked.ensures.net ∙ c.of-flow.ensures.net)) (λ p. ap (λ z. at z p) c.new-asked.ensures.counts ∙ c.all_counts-counts.ensures.answer p)
+    (c.new-asked.ensures.tally ∙ c.of-flow.ensures.tally) c.new-asked.ensures.target c.new-asked.ensures.kind checked.1
+    c.spare.result c.spare.ensures.answer checked.0 (accepted_with _ tt tt c.in_ok-check_causes.ensures) in
+    let w = c.write_first_order-length in
+    record {
+      does = rw (c.of-flow.ensures.net, c.of-flow.ensures.tally) (front_does N.net N.law H R (g.met.B.Board.bounded a.board.now) (g.met.B.Board.outside a.board.now) a.done.now a.tally.now T a.memory.now none c.all_counts-counts.result c.all_counts-counts.ensures.answer w.result w.new.memory w.ensures.answer w.ensures.memory);
+      few = front_few N.net N.law H R (g.met.B.Board.bounded a.board.now) (g.met.B.Board.outside a.board.now) a.done.now a.tally.now T a.memory.now none c.all_counts-counts.result c.all_counts-counts.ensures.answer w.result w.new.memory w.ensures.answer w.ensures.memory;
+      room = rw (c.of-flow.ensures.net, c.of-flow.ensures.tally) ((fits_now N.net N.law (held H R a.done.now) a.tally.now T (length a.memory.now) none).spare_holds);
     }
 
 pub returns : goal.returns
 returns g c =
     let a = c.args in
-    let N = (g.N.Net.meaning a.net.now).net in
+    let N = g.N.Net.meaning a.net.now in
     let H = g.B.Board.counts a.board.now in
     let R = g.B.Board.spare a.board.now in
+    let T = target_of a.target.numbers.now a.target.kind in
     let q = c.new-asked.result in
     let checked = c.in_ok-kind.ensures H in
     let none =
-    accepted_as_asked N H R a.done.now a.tally.now a.target.numbers.now a.target.kind (length a.memory.now)
+    accepted_as_asked N.net H R a.done.now a.tally.now a.target.numbers.now a.target.kind (length a.memory.now)
     (g.N.Net.meaning q.net.now).net q.counts.now q.tally.now q.target.now c.in_ok-kind.kind q.kind
     (ap (λ z. (g.N.Net.meaning z).net) (c.new-asked.ensures.net ∙ c.of-flow.ensures.net)) (λ p. ap (λ z. at z p) c.new-asked.ensures.counts ∙ c.all_counts-counts.ensures.answer p)
     (c.new-asked.ensures.tally ∙ c.of-flow.ensures.tally) c.new-asked.ensures.target c.new-asked.ensures.kind checked.1
     c.spare.result c.spare.ensures.answer checked.0 (accepted_with _ tt tt c.in_ok-check_causes.ensures) in
-    let fired = c.fire_first_order in
-    let b' = fired.new.board in
-    accepted_tally N (held H R a.done.now) a.tally.now (target_of a.target.numbers.now a.target.kind) a.memory.now fired.result
-    (g.B.Board.counts b') (g.B.Board.spare b') fired.new.memory none
-    fired.ensures.answer fired.ensures.counts fired.ensures.spare fired.ensures.memory
+    let w = c.write_first_order-length in
+    let b' = c.move_order.new.board in
+    let order = front_order N.net N.law H R (g.met.B.Board.bounded a.board.now) (g.met.B.Board.outside a.board.now) a.done.now a.tally.now T a.memory.now none c.all_counts-counts.result c.all_counts-counts.ensures.answer w.result w.new.memory w.ensures.answer w.ensures.memory in
+    accepted_tally N.net (held H R a.done.now) a.tally.now T a.memory.now w.result
+    (g.B.Board.counts b') (g.B.Board.spare b') w.new.memory none
+    (found_long N.net N.law H R (g.met.B.Board.bounded a.board.now) (g.met.B.Board.outside a.board.now) a.done.now a.tally.now T a.memory.now none c.all_counts-counts.result c.all_counts-counts.ensures.answer w.result w.new.memory w.ensures.answer w.ensures.memory)
+    (c.move_order.ensures.counts
+    ∙ ap (λ z. after (g.N.Net.meaning z).net H (take w.result w.new.memory)) c.of-flow.ensures.net
+    ∙ ap (after N.net H) order)
+    (c.move_order.ensures.spare
+    ∙ ap (λ z. (R + steps_asked (g.N.Net.meaning z).net (at c.of-flow.result.tally.now)) - yields_asked (g.N.Net.meaning z).net (at c.of-flow.result.tally.now)) c.of-flow.ensures.net
+    ∙ ap (λ x. (R + steps_asked N.net (at x)) - yields_asked N.net (at x)) c.of-flow.ensures.tally)
+    (found_written N.net N.law H R (g.met.B.Board.bounded a.board.now) (g.met.B.Board.outside a.board.now) a.done.now a.tally.now T a.memory.now none c.all_counts-counts.result c.all_counts-counts.ensures.answer w.result w.new.memory w.ensures.answer w.ensures.memory)
