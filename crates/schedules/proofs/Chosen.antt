@@ -47,9 +47,6 @@ module _ (N : NetMeaning) (law : NetLaw N) (m : Marking) (x : Tally) (s : Schedu
       ∙ ap (λ (v : Bool). (has s.marked q && not (eqb q p)) || v) (h.yields t q)
       ∙ marked_fired N law m x s h t i q (has s.marked q && not (eqb q p)) (λ _. refl) (λ d. absurd (d (omega arith)))
 
-  pub ready_from : 0 < x t → 0 < m p → has s.ready t ≡ true
-  ready_from k i = ready_shown ∙ and_from (ltb 0 (x t)) (ltb 0 (m p)) (lt-ltb 0 (x t) k) (lt-ltb 0 (m p) i)
-
   pub safe_not_ready : has s.ready t ≡ false → safe N m x t ≡ false
   safe_not_ready e = not_ready N law m x t (sym ready_shown ∙ e)
 
