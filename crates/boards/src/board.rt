@@ -26,7 +26,7 @@ pub fn index_of(place: u8) -> Result<usize, Refusal>
 pub const BOARD_LIMIT: u32 = 2_147_483_647;
 
 /// The number raised by `more` and then lowered by `fewer`; none where one of the two is no `u32`.
-pub fn changed(number: u32, more: u32, fewer: u32) -> Option<u32>
+pub fn raised_and_lowered(number: u32, more: u32, fewer: u32) -> Option<u32>
     ensures answer { MatchOption result ((4294967295 < number + more) ⊎ (number + more < fewer)) (λ n. n + fewer ≡ number + more) }
 {
     number.checked_add(more)?.checked_sub(fewer)

@@ -6,7 +6,7 @@ ghost use Rattle.boards.specs.Rows.{at_place, LoadSays, RowMoved};
 ghost use Rattle.std.proofs.Common.{arith, rules};
 ghost use Rattle.std.proofs.lemmas.List.{get_or_past};
 
-use crate::board::{BOARD_LIMIT, Board, PLACES, changed, index_of};
+use crate::board::{BOARD_LIMIT, Board, PLACES, index_of, raised_and_lowered};
 use refusals::Refusal;
 
 /// A board that keeps the 64 counts and spare as numbers.
@@ -72,7 +72,7 @@ fn moved(
 {
     let mut row = *counts;
     for place in 0..PLACES {
-        row[place] = changed(row[place], put[place], taken[place])?;
+        row[place] = raised_and_lowered(row[place], put[place], taken[place])?;
     }
     Some(row)
 }
@@ -120,7 +120,7 @@ impl Board for CountBoard {
         all_taken: u32,
         all_put: u32,
     ) -> bool {
-        let Some(spare) = changed(self.spare, all_taken, all_put) else {
+        let Some(spare) = raised_and_lowered(self.spare, all_taken, all_put) else {
             return false;
         };
         let Some(counts) = moved(&self.counts, taken, put) else {

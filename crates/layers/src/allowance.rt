@@ -5,7 +5,7 @@ ghost use Rattle.theory.specs.Rows.{at};
 ghost use Rattle.layers.specs.Allowances.{left_after_take, left_after_put, left_after_move_all, PutLeaves};
 ghost use Rattle.std.proofs.Common.{rules, arith};
 
-use boards::board::{BOARD_LIMIT, Board, PLACES, changed, index_of};
+use boards::board::{BOARD_LIMIT, Board, PLACES, index_of, raised_and_lowered};
 use refusals::Refusal;
 
 /// A board over another, of whose spare no more than the number left may be used.
@@ -90,7 +90,7 @@ impl<B: Board> Board for Allowance<B> {
         ensures left { self.new.left ≡ left_after_move_all all_taken all_put result self.old.left }
         ensures below { let old = self.old in let new = self.new in MoveAllSays (at taken.now) (at put.now) all_taken all_put (B.counts old.below) (B.spare old.below) result (B.counts new.below) (B.spare new.below) }
     {
-        let Some(left) = changed(self.left, all_taken, all_put) else {
+        let Some(left) = raised_and_lowered(self.left, all_taken, all_put) else {
             return false;
         };
         if !self.below.move_all(taken, put, all_taken, all_put) {
