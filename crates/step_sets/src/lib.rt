@@ -35,13 +35,6 @@ impl StepSet {
         StepSet { word: 0 }
     }
 
-    /// Whether the step is in the set; false above 127.
-    pub fn has(self, step: u16) -> bool
-        ensures { result ≡ has self step }
-    {
-        step < STEPS && (self.word >> step) & 1 == 1
-    }
-
     /// The set with one step more; a step above 127 leaves it as it is.
     pub fn with(self, step: u16) -> StepSet
         ensures answer { (t : ℕ) → has result t ≡ (has self t || (t == step && nat_lt step 128)) }
