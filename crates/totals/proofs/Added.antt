@@ -35,7 +35,10 @@ added_more old more done row h place i v done' l there new gives bound with_plac
         omega (
           arith,
           get_or-set_at row i p v 0 (e ∙ sym there) (omega (arith, h.long, l, there)),
-          gives, ap (at row) (there ∙ sym e), ap more e, ap old e,
+          gives,
+          ap (at row) (there ∙ sym e),
+          ap more e,
+          ap old e,
           h.each p,
           cond-false (has done p) (more p) 0 (ap (has done) e ∙ new),
           cond-true (has done' p) (more p) 0 now,
