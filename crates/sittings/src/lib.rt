@@ -1,7 +1,6 @@
 //! Sittings: one net, one board and one done row, with the calls fire, resume and survey.
 #![tactic(auto)]
 
-mod by_table;
 mod done_rows;
 mod methods;
 pub mod sitting;

@@ -5,14 +5,14 @@ ghost use Rattle.checks.specs.Held.{target_of};
 ghost use Rattle.sittings.specs.Held.{held_by};
 ghost use Rattle.std.specs.Prelude.{◌≡◌, length};
 
-use crate::by_table::fire_by_table;
 use crate::done_rows::with_tally;
 use crate::sitting::Sitting;
 use answers::Finding;
 use boards::board::Board;
 use checks::{DONE_LIMIT, Target};
 use firings::move_blocks;
-use nets::net::{MOST_STEPS, Net};
+use nets::net::Net;
+use orders::fire_tally;
 use refusals::Refusal;
 use surveys::list_findings;
 use tables::net_table::NetTable;
@@ -62,7 +62,9 @@ impl<N: Net, B: Board> Sitting<N, B> {
             held_by B.Board self.new ≡ unless (resume_refusal net before tally.now target (length order.old)) before (after_resume net before tally.now) }
         ensures memory { order.new ≡ order_memory (N.meaning self.old.net).net (held_by B.Board self.old) tally.now (target_of target.entry.numbers.now target.entry.kind) order.old }
     {
-        let length = fire_by_table(&self.net, &mut self.board, &self.done, tally, target, order)?;
+        let mut table = NetTable::new();
+        table.read(&self.net);
+        let length = fire_tally(&table, &mut self.board, &self.done, tally, target, order)?;
         self.done = with_tally(&self.done, tally);
         Ok(length)
     }
@@ -78,7 +80,7 @@ impl<N: Net, B: Board> Sitting<N, B> {
         ensures answer { result ≡ survey_answer (N.meaning self.now.net).net (held_by B.Board self.now) tally.now (target_of target.entry.numbers.now target.entry.kind) (length findings.old) }
         ensures memory { findings.new ≡ findings_memory (N.meaning self.now.net).net (held_by B.Board self.now) tally.now (target_of target.entry.numbers.now target.entry.kind) findings.old }
     {
-        let mut table: NetTable<MOST_STEPS> = NetTable::new();
+        let mut table = NetTable::new();
         table.read(&self.net);
         list_findings(&table, &self.board, &self.done, tally, target, findings)
     }

@@ -5,25 +5,24 @@ ghost use Rattle.table_law.proofs.TableLaw.{table_lawful};
 ghost use Rattle.table_law.specs.Tables.{cell, yields_somewhere, table_net};
 ghost use Rattle.theory.specs.Rows.{at};
 
-use nets::net::{MOST_PLACES, Net};
+use nets::net::{MOST_PLACES, MOST_STEPS, Net};
 use place_sets::PlaceSet;
 
 /// The answers of a net: the input of each step, and for each step a row of yields and the set of their places.
 #[derive(Drop)]
-pub struct NetTable<const STEPS: usize> {
+pub struct NetTable {
     places: u8,
     steps: u16,
     // Rows by step, which may hold anything from the number of steps on.
-    inputs: [u8; STEPS],
-    yields: [[u8; MOST_PLACES]; STEPS],
-    yield_places: [PlaceSet; STEPS],
+    inputs: [u8; MOST_STEPS],
+    yields: [[u8; MOST_PLACES]; MOST_STEPS],
+    yield_places: [PlaceSet; MOST_STEPS],
     // Six fields and not one with the whole law: that names a place where a step yields, so it may hold
     // in several ways, and a ghost field in one way only. Two more: the row of a step holds its yields outside the
     // places too, and the set of a step is the places of its row.
     ghost some_place: { 1 ≤ places },
     ghost few_places: { places ≤ 64 },
     ghost few_steps: { steps ≤ 128 },
-    ghost rows: { steps ≤ STEPS },
     ghost inputs_inside: { (t : ℕ) → t < steps → at inputs t < places },
     ghost yields_small: { (t p : ℕ) → t < steps → p < places → cell yields t p ≤ 255 },
     ghost yields_something: { (t : ℕ) → t < steps → yields_somewhere yields places t ≡ true },
@@ -31,24 +30,23 @@ pub struct NetTable<const STEPS: usize> {
     ghost places_held: { (t p : ℕ) → t < steps → has (at yield_places t) p ≡ nat_lt 0 (cell yields t p) },
 }
 
-impl<const STEPS: usize> NetTable<STEPS> {
+impl NetTable {
     /// A table of a net of one place and no steps.
-    pub fn new() -> NetTable<STEPS>
+    pub fn new() -> NetTable
         ensures places { result.places ≡ 1 }
         ensures steps { result.steps ≡ 0 }
     {
         NetTable {
             places: 1,
             steps: 0,
-            inputs: [0; STEPS],
-            yields: [[0; MOST_PLACES]; STEPS],
-            yield_places: [PlaceSet::empty(); STEPS],
+            inputs: [0; MOST_STEPS],
+            yields: [[0; MOST_PLACES]; MOST_STEPS],
+            yield_places: [PlaceSet::empty(); MOST_STEPS],
         }
     }
 
     /// Takes over every answer of a net.
     pub fn read<N: Net>(&mut self, net: &N)
-        requires { (N.meaning net.now).net.steps ≤ STEPS }
         ensures { table_net self.new.places self.new.steps self.new.inputs self.new.yields ≡ (N.meaning net.now).net }
     {
         // While the table has no steps its rows may hold anything, so they are filled where they lie: a table that
@@ -65,7 +63,7 @@ impl<const STEPS: usize> NetTable<STEPS> {
     }
 }
 
-impl<const STEPS: usize> Net for NetTable<STEPS> {
+impl Net for NetTable {
     ghost meaning = { λ n. record { net = table_net n.places n.steps n.inputs n.yields; law = table_lawful n.places n.steps n.inputs n.yields n.some_place n.few_places n.few_steps n.inputs_inside n.yields_small n.yields_something } };
 
     fn places(&self) -> u8 {

@@ -11,8 +11,8 @@ fn net<'a>(file: &'a [u8]) -> Result<GridNet<'a>, Refusal> {
     Ok(net)
 }
 
-fn table<'a>(file: &'a [u8]) -> Result<NetTable<128>, Refusal> {
-    let mut table: NetTable<128> = NetTable::new();
+fn table<'a>(file: &'a [u8]) -> Result<NetTable, Refusal> {
+    let mut table = NetTable::new();
     table.read(&net(file)?);
     Ok(table)
 }
@@ -69,7 +69,7 @@ fn a_table_read_again_answers_as_the_later_net(rt: HostRuntime) -> Result<(), Fa
 
 #[test]
 fn a_new_table_has_no_steps(rt: HostRuntime) -> Result<(), Fail> {
-    let net: NetTable<128> = NetTable::new();
+    let net = NetTable::new();
     assert_eq!(rt; (net.places(), net.steps()), (1, 0));
     assert_eq!(rt; net.input(0), None);
     Ok(())

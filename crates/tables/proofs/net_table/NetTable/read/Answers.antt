@@ -22,7 +22,6 @@ invariant_of-self-2 g c =
       some_place = omega (arith, law.some_place, read.places);
       few_places = omega (arith, law.few_places, read.places);
       few_steps = omega (arith, law.few_steps, steps);
-      rows = omega (arith, c.requires, steps);
       inputs_inside = inputs_within _ law _ _ _ _ holds;
       yields_small = yields_small _ law _ _ _ _ holds;
       yields_something = yields_at_some_place _ law _ _ _ _ holds;

@@ -8,7 +8,7 @@ abbrev pub invariant-loop-step : goal.invariant-loop-step
 invariant-loop-step g l = record {
   none : l.self.steps ≡ 0;
   places : l.self.places ≡ (g.N.Net.meaning l.net).net.places;
-  inputs : Front g.row.STEPS (λ t place. place ≡ (g.N.Net.meaning l.net).net.input t) 0 l.step l.self.inputs;
-  rows : Front g.row.STEPS (λ t row. (p : ℕ) → at row p ≡ (g.N.Net.meaning l.net).net.yields t p) [] l.step l.self.yields;
-  sets : Front g.row.STEPS (λ t w. (p : ℕ) → has w p ≡ ltb 0 ((g.N.Net.meaning l.net).net.yields t p)) 0 l.step l.self.yield_places;
+  inputs : Front (λ t place. place ≡ (g.N.Net.meaning l.net).net.input t) 0 l.step l.self.inputs;
+  rows : Front (λ t row. (p : ℕ) → at row p ≡ (g.N.Net.meaning l.net).net.yields t p) [] l.step l.self.yields;
+  sets : Front (λ t w. (p : ℕ) → has w p ≡ ltb 0 ((g.N.Net.meaning l.net).net.yields t p)) 0 l.step l.self.yield_places;
 }

@@ -7,7 +7,7 @@ use Rattle.tables.proofs.net_table.NetTableNet.read_yields.Goals as goal
 use Rattle.tables.proofs.net_table.NetTableNet.read_yields.Goals.{then-step-self, else-step-self}
 
 pub returns-clause-row : goal.returns-clause-row
-returns-clause-row g c p =
+returns-clause-row c p =
     let table = c.args.self.now in
     let t : ℕ = c.args.step in
     let read = λ (row : List ℕ). at row p in
