@@ -20,6 +20,7 @@ EXACT, AT_LEAST = 0, 1
 MOST_TO_TRY = 10  # trying every order goes one call deeper for each step
 
 DETOUR = plain_chained(moves(3, [(0, 2), (0, 1), (1, 0)]))
+HEAP = (FOLDER / "heap.chained").read_bytes()
 LOCK = (FOLDER / "lock.chained").read_bytes()
 DOUBLER = plain_chained(Meaning(1, [(0, [2])]))
 TO_FORTY_PLACES = plain_chained(Meaning(40, [(0, [250] * 40)]))
@@ -56,6 +57,7 @@ def examples() -> dict[str, Example]:
     """All example sheets by name."""
     detour = asked(DETOUR, [1, 0, 0], [1, 1, 1], EXACT, [0, 0, 1], "ok 1 2 0")
     return {
+        "heap": asked(HEAP, [1, 0, 0, 0], [1, 1, 3, 1], EXACT, [0, 0, 1, 2], "ok 0 1 2 2 2 3"),
         "detour": detour,
         "short": asked(DETOUR, [1, 0, 0], [1, 1, 2], EXACT, [1, 0, 1], "no 11 1"),
         "cut-off": asked(DETOUR, [0, 0, 1], [0, 1, 1], EXACT, [0, 0, 1], "no 12 0"),
