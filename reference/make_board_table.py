@@ -1,7 +1,7 @@
 """Makes the table of calls on random piles that the program board_vectors compares the proved boards with.
 
 Writes crates/board_vectors/stdin, a line for each call with what the boards of boards.py answer, and
-crates/board_vectors/stdout, how many lines there are. docs/FORMATS.md says what a line holds.
+crates/board_vectors/stdout, how many lines there are. docs/TESTING.md says what a line holds.
 """
 
 import pathlib

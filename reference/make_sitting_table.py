@@ -1,7 +1,7 @@
 """Makes the table of calls on sittings that the program sitting_vectors compares the proved ones with.
 
 Writes crates/sitting_vectors/stdin, a line for each call with what sittings.py answers, and
-crates/sitting_vectors/stdout, what a program that agrees prints. docs/FORMATS.md says what a line holds.
+crates/sitting_vectors/stdout, what a program that agrees prints. docs/TESTING.md says what a line holds.
 Prints what the table has. The same bytes come out every time.
 """
 

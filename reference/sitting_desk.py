@@ -1,4 +1,4 @@
-"""Answers the lines of the table of sittings, one after the other. docs/FORMATS.md says what a line holds."""
+"""Answers the lines of the table of sittings, one after the other. docs/TESTING.md says what a line holds."""
 
 import sittings
 from boards import PLACES, Allowance, CountBoard, Refused, Renaming, SlotBoard, digest, picture
