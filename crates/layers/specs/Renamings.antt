@@ -13,7 +13,7 @@ pub record IsRenaming (row : List ℕ) : Type 0 where
 abbrev pub renamed : List ℕ → (ℕ → ℕ) → ℕ → ℕ
 renamed row counts p = cond (nat_lt p 64) (counts (slice_index row p)) 0
 
--- the numbers of the row of places, each where the board below looks for it
+-- the numbers of a row by place, in the row that has them by the places below
 pub record RowBelow (row numbers below : List ℕ) : Type 0 where
   pub long : length below ≡ 64
   pub placed : (p : ℕ) → p < 64 → slice_index below (slice_index row p) ≡ slice_index numbers p

@@ -35,7 +35,7 @@ reach N m x zero p = nat_lt 0 (m p)
 reach N m x (suc k) p =
     reach N m x k p || any_below (λ t. nat_lt 0 (x t) && (nat_lt 0 (N.yields t p) && reach N m x k (N.input t))) N.steps
 
--- p is reached: the longest path to try has as many steps as there are places
+-- p is reached: no path need be tried that has more steps than the net has places
 abbrev pub is_reached : NetMeaning → Marking → Tally → ℕ → Bool
 is_reached N m x p = reach N m x N.places p
 

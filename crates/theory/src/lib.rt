@@ -22,8 +22,8 @@ pub fn which_tallies_can_be_done()
     ensures short { ShortBelowZero }
 {}
 
-/// The lexicographically least order of a tally is found without going back: there is a safe step as long
-/// as one is left, and the least safe one is right each time.
+/// The lexicographically least order of a tally that can be done is found without going back: there is a safe
+/// step as long as one is left, and the least safe one is right each time.
 pub fn which_order_is_the_first()
     ensures step { SafeStepExists }
     ensures first { LeastSafeIsFirst }
