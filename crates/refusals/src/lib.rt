@@ -9,7 +9,7 @@ use std::fmt;
 /// Why a call was refused; each variant begins with its number. Steps and places count from 0, arcs from 1.
 #[derive(Clone, Copy, PartialEq, Eq, Debug)]
 pub enum Refusal {
-    /// 1: the file ends before its head does, or goes on for fewer or more bytes than such a head is followed by.
+    /// 1: the file ends within its head, or is longer or shorter than the sizes in its head make it.
     WrongLength,
     /// 2: a net of no place, or of 65 and more.
     PlacesOutOfRange,
