@@ -1,6 +1,6 @@
 """Boards and layers, written from their rules in words alone, to compare the proved ones with.
 
-A board has 64 counts and a number spare, which add up to at most 2,147,483,647. Nothing here is fast or
+What lies on a board and what still fits (its spare) is at most 2,147,483,647 blocks. Nothing here is fast or
 clever: each rule stands once, as it is told.
 """
 
@@ -19,7 +19,7 @@ class Refused(Exception):
 
 
 class CountBoard:
-    """64 numbers and a spare; a new one is all zeros."""
+    """The blocks of each place, and how many more fit; at first no block lies there and none fits."""
 
     def __init__(self):
         self.numbers = [0] * PLACES
@@ -55,7 +55,7 @@ class CountBoard:
 
 
 class SlotBoard:
-    """4,096 slots, each 0 for empty or a place plus 1; a new one is empty."""
+    """A row of 4,096 slots with at most one block each, kept as the number of its place and 1; 0 is no block."""
 
     def __init__(self):
         self.slots = [0] * SLOTS
@@ -89,7 +89,7 @@ class SlotBoard:
 
 
 class Renaming:
-    """A board over a board: a row of the 64 place numbers says which place below each one stands for."""
+    """A board over a board, with other numbers for its places: `row[p]` is what place p is called below."""
 
     def __init__(self, below):
         self.below = below
@@ -122,7 +122,7 @@ class Renaming:
 
 
 class Allowance:
-    """A board over a board: of the spare below no more than the number left may be used."""
+    """A board over a board that grants less room: for `left` blocks, even where more would fit below."""
 
     def __init__(self, below, left):
         self.below = below

@@ -1,7 +1,7 @@
 """Compares the two judges of a tally on random small nets: compare_judges.py N SEED
 
-Prints how many nets were tried, how the verdicts fell, and how often each of four easy errors would
-have given another verdict, so that a sample in which nothing could go wrong shows as one.
+Prints how many nets were tried, how the verdicts fell, and how often each of some shortcuts, which look right
+and are not, gave another verdict: a sample in which they all did well shows nothing.
 """
 
 import random
@@ -75,7 +75,7 @@ def fires_any_step(net, marking, tally) -> bool:
 
 
 def easy_errors(net, marking, tally, can_be_done: bool) -> list[str]:
-    """Which easy errors give another verdict than the right one."""
+    """Which of the shortcuts give another verdict than the right one."""
     errors = []
     if fires_any_step(net, marking, tally) != can_be_done:
         errors.append("firing any step that can be fired sticks")

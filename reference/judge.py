@@ -105,7 +105,7 @@ def size_refusal(sheet: Sheet) -> Optional[Refused]:
 
 
 def place_refusal(sheet: Sheet) -> Optional[Refused]:
-    """The least short place, else the least cut-off place, else the least missed place."""
+    """What is wrong with the tally itself: short before cut off before missed, and the least such place."""
     finals = judges.final_numbers(sheet.net, sheet.start, sheet.tally)
     short = [p for p, number in enumerate(finals) if number < 0]
     if short:

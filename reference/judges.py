@@ -1,7 +1,7 @@
 """Two judges of a tally, written from the rules in words: one by the rule, one by trying every order.
 
-A net has places and steps, numbered from 0. Each step takes one block from its input place and then
-adds its yields, one number for each place. A step can be fired when its input place holds a block.
+They are written for short nets and small tallies: a net is what a step takes and yields, a marking is a tuple
+of blocks, a tally a tuple that has for each step how often it is to be fired.
 """
 
 from typing import NamedTuple, Optional
@@ -41,11 +41,11 @@ def one_less(tally: tuple[int, ...], step: int) -> tuple[int, ...]:
     return tuple(n - (t == step) for t, n in enumerate(tally))
 
 
-# By the rule: no place is short, none is cut off, and then the least safe step each time.
+# By the rule: see that no place stands in the way, then choose the least safe step each time.
 
 
 def final_numbers(net: Net, marking: tuple[int, ...], tally: tuple[int, ...]) -> list[int]:
-    """For each place its count, less the tally of each step taking from it, plus tally times yield."""
+    """What the marking equation gives for each place; below 0 where more is taken than there is."""
     finals = list(marking)
     for step, n in enumerate(tally):
         finals[net.inputs[step]] -= n
@@ -107,7 +107,7 @@ def judge_by_rule(net: Net, marking: tuple[int, ...], tally: tuple[int, ...]) ->
     return Verdict("done", None, tuple(order))
 
 
-# By trying every order, smaller step numbers first, with nothing but the firing rule.
+# By trying: all orders, the lexicographically least first, with nothing but the firing rule.
 
 
 def judge_by_trying(net: Net, marking: tuple[int, ...], tally: tuple[int, ...]) -> Optional[tuple[int, ...]]:

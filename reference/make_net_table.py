@@ -147,7 +147,7 @@ def chained(places: int, steps: Sequence[Step], arcs: Sequence[Arc]) -> bytes:
 
 
 def given(text: str) -> bytes:
-    """The bytes of an example as the documents write it."""
+    """The bytes of an example that is written with spaces and commas."""
     return bytes.fromhex(text.replace(",", " "))
 
 

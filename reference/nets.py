@@ -39,7 +39,7 @@ class Net:
         self._yields = yields
 
     def input_of(self, step: int) -> Optional[int]:
-        """The input place of a step; None for a step number of T or more."""
+        """From which place a step takes; None for a step that the net has not."""
         if not 0 <= step < self.steps:
             return None
         return self._inputs[step]

@@ -9,12 +9,12 @@ from draw_sittings import Plan, chained_file, judged
 from make_net_table import grid
 from sittings import CUT_OFF, MISSED, MOST_DONE, SHORT
 
-# step 0 goes from place 0 to 2, step 1 from 0 to 1, step 2 from 1 back to 0
+# from place 0 away to 2 by step 0, or over place 1 and back by steps 1 and 2
 DETOUR = Plan(3, [(0, [0, 0, 1]), (0, [0, 1, 0]), (1, [1, 0, 0])])
-# one place, and a step that takes there and yields 2, or 1
+# one place, whose step puts back two blocks for one, or just the one
 DOUBLER = Plan(1, [(0, [2])])
 LOOP = Plan(1, [(0, [1])])
-# steps 0 and 1 go from 0 to 1, steps 2 and 3 from 1 to 2, steps 4 and 5 from 2 to 0
+# a ring of three places, with two steps alike from each place to the next
 LOCK = Plan(3, [(0, [0, 1, 0])] * 2 + [(1, [0, 0, 1])] * 2 + [(2, [1, 0, 0])] * 2)
 
 EXACT, AT_LEAST = 0, 1

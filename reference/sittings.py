@@ -1,7 +1,7 @@
 """Sittings, written from their rules in words alone, to compare the proved ones with.
 
-A sitting is a net, a board and a done row. The checks of each call stand in the sequence of docs/RULES.md,
-and nothing is changed before the last of them has passed. Nothing here is fast or clever.
+The checks of each call stand in the sequence of docs/RULES.md, and nothing is changed before the last of
+them has passed. Nothing here is fast or clever.
 """
 
 from typing import NamedTuple
@@ -37,7 +37,7 @@ class Target(NamedTuple):
 
 
 class Sitting:
-    """One net, one board, and how often each step was done."""
+    """A net and the board that it is used on, with a counter for each step that was fired."""
 
     def __init__(self, net, board):
         self.net = net
@@ -67,7 +67,7 @@ class Sitting:
         self.done[step] += 1
 
     def resume(self, tally, target, memory):
-        """Fires the first order of the tally and writes it into the memory; answers its length."""
+        """Does a tally by its first order, and notes the steps in the memory; gives how many they are."""
         self.check_rows(tally, target)
         if len(memory) < sum(tally):
             raise Refused(9)
@@ -115,7 +115,7 @@ class Sitting:
     # firing
 
     def move(self, step):
-        """One take at the input, then one put for each place where the step yields, by rising place."""
+        """Fires a step by calls of the board, so that a slot board has its blocks where they belong."""
         self.board.take(self.net.input_of(step))
         for place, n in self.yields[step].items():
             self.board.put(place, n)
@@ -127,7 +127,7 @@ class Sitting:
     # tallies
 
     def final_numbers(self, tally):
-        """For each place its count, less the tally of each step taking there, plus tally times yield."""
+        """What the marking equation gives for each place; below 0 where more is taken than there is."""
         finals = self.marking()
         for step, n in enumerate(tally):
             finals[self.net.input_of(step)] -= n
@@ -174,7 +174,7 @@ def short_places(finals):
 
 
 def missed_places(finals, target):
-    """Where the final number differs from an exact target, or lies below an at-least target."""
+    """Where the tally leaves other than an exact target has, or too little to cover one of the other kind."""
     if target.kind == EXACT:
         return [place for place, number in enumerate(finals) if number != target.numbers[place]]
     return [place for place, number in enumerate(finals) if number < target.numbers[place]]

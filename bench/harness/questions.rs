@@ -4,7 +4,7 @@ use crate::nets::Net;
 use crate::numbers::Numbers;
 use plain::{Asked, PLACES};
 
-/// What the counts of a board and its spare add up to at most.
+/// The most blocks that a board has room for, those that lie on it included.
 const BOARD_LIMIT: u32 = 2_147_483_647;
 
 #[derive(Clone)]

@@ -20,7 +20,7 @@ fn by_rule(rule: impl FnMut(usize) -> Step) -> Net {
     largest((0..STEPS).map(rule).collect())
 }
 
-/// Step 0 from place 0 to 2, step 1 from 0 to 1, step 2 from 1 to 0.
+/// Step 0 leads from place 0 away to 2; steps 1 and 2 are a detour over place 1.
 pub fn tiny() -> Net {
     let steps = vec![
         Step::new(0, &[(2, 1)]),

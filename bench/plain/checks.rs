@@ -40,7 +40,7 @@ pub fn check_spare<const ARCS: usize>(
     Ok(())
 }
 
-/// The least short place, else the least cut-off one, else the least missed one.
+/// What is wrong with the tally itself, if anything: short before cut off before missed, and the least such place.
 pub fn check_causes<const ARCS: usize>(
     table: &Table<ARCS>,
     question: &Question<'_>,

@@ -40,7 +40,7 @@ const fn refusal(number: u8, detail: usize) -> Refusal {
     }
 }
 
-/// Judges a sheet: writes its line from the front of the text memory and answers the line's length.
+/// Judges a sheet: puts the line of its verdict at the start of `text`, and says how many bytes that is.
 pub fn judge(sheet: &[u8], text: &mut [u8]) -> Result<usize, Refusal> {
     let judged = Question::of_sheet(sheet).and_then(|question| match question.net.most_arcs() {
         0..=FEW_ARCS => write_order::<FEW_ARCS>(&question, text),
@@ -76,8 +76,8 @@ pub struct Asked<'a> {
     pub kind: u8,
 }
 
-/// Resumes a tally on a new sitting with the net of a chained file and a count board: writes the first order
-/// from the front of the order memory and answers its length.
+/// Does a tally on a count board with these blocks, by the net of a chained file: notes the steps of the first
+/// order in `order`, and says how many they are.
 pub fn resume(file: &[u8], asked: Asked<'_>, order: &mut [u16]) -> Result<usize, Refusal> {
     let question = Question::of_resume(file, asked)?;
     match question.net.most_arcs() {

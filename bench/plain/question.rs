@@ -3,7 +3,7 @@
 use crate::chained::{Head, Net};
 use crate::{Asked, PLACES, Refusal, STEPS, refusal};
 
-/// What the counts of a board and its spare add up to at most.
+/// The most blocks that a board has room for, those that lie on it included.
 const BOARD_LIMIT: u64 = 2_147_483_647;
 
 /// The spare of the board that a sheet is judged on.

@@ -21,13 +21,13 @@ abbrev pub unless : {A : Type 0} → Option Refusal → A → A → A
 unless None before next = next
 unless (Some e) before next = before
 
--- lent memory with these written from its front
+-- lent memory with these as its first entries, and the others as they were
 abbrev pub written : {A : Type 0} → List A → List A → List A
 written items memory = items ++ drop (length items) memory
 
 -- FIRE
 
--- the checks of a fire, in their order
+-- what a fire looks at, first to last, each with the refusal that it may bring
 abbrev pub fire_checks : NetMeaning → State → ℕ → List (Bool × Refusal)
 fire_checks N s t =
     (nat_le N.steps t, NoSuchStep)
@@ -40,7 +40,7 @@ fire_checks N s t =
 abbrev pub fire_refusal : NetMeaning → State → ℕ → Option Refusal
 fire_refusal N s t = first_wrong (fire_checks N s t)
 
--- fire answers only that it was accepted
+-- an accepted fire has no more to say than that
 abbrev pub fire_answer : NetMeaning → State → ℕ → Result (Unit {0}) Refusal
 fire_answer N s t = answered (fire_refusal N s t) tt
 
@@ -59,7 +59,7 @@ abbrev pub rows_fit : NetMeaning → List ℕ → Target → Bool
 rows_fit N tally target =
     (length tally == N.steps) && (length target.numbers == N.places && nat_lt target.kind 2)
 
--- the size checks of a resume, in their order, for order memory of so many entries
+-- what a resume looks at before it looks at the net's places: the sizes, for order memory of so many entries
 abbrev pub size_checks : NetMeaning → State → List ℕ → Target → ℕ → List (Bool × Refusal)
 size_checks N s tally target memory =
     (not (rows_fit N tally target), RowsUnfit)
@@ -72,14 +72,15 @@ size_checks N s tally target memory =
 abbrev pub size_refusal : NetMeaning → State → List ℕ → Target → ℕ → Option Refusal
 size_refusal N s tally target memory = first_wrong (size_checks N s tally target memory)
 
--- the place is missed: its final number differs from an exact target, or lies below an at-least target
+-- the place is missed: the tally would leave there more or fewer blocks than an exact target has, or too few to cover
+-- one of the other kind; both sides are raised by what is spent, as numbers here are never negative
 abbrev pub is_missed : NetMeaning → Marking → Tally → Target → ℕ → Bool
 is_missed N m x target p =
     cond (target.kind == 0)
     (not (m p + gained N x p == at target.numbers p + spent N x p))
     (nat_lt (m p + gained N x p) (at target.numbers p + spent N x p))
 
--- the least short place, else the least cut-off place, else the least missed place
+-- the place that a resume names: short goes before cut off, that before missed, and of several places the least
 abbrev pub cause_refusal : NetMeaning → Marking → Tally → Target → Option Refusal
 cause_refusal N m x target =
     option_or (option_map Short (least (is_short N m x) N.places))
@@ -103,11 +104,11 @@ after_resume N s tally = record {
   done = λ u. s.done u + at tally u;
 }
 
--- resume answers the order's length
+-- an accepted resume says how many steps it fired
 abbrev pub resume_answer : NetMeaning → State → List ℕ → Target → ℕ → Result ℕ Refusal
 resume_answer N s tally target memory = answered (resume_refusal N s tally target memory) (length (the_order N s tally))
 
--- the order memory after a resume: the order from its front, and the rest as it was
+-- what a resume leaves in the lent memory: a step number for each step fired, and nothing else that is new
 abbrev pub order_memory : NetMeaning → State → List ℕ → Target → List ℕ → List ℕ
 order_memory N s tally target memory =
     unless (resume_refusal N s tally target (length memory)) memory (written (the_order N s tally) memory)

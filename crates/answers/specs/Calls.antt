@@ -87,7 +87,7 @@ abbrev pub history : NetMeaning → State → List Call → List ℕ
 history N s [] = []
 history N s (c ∷ cs) = fired_by N s c ++ history N (after_call N s c) cs
 
--- the accepted work: how often the accepted calls ask for each step
+-- how often the calls ask for each step, those that were refused left out
 abbrev pub accepted_times : NetMeaning → State → List Call → Tally
 accepted_times N s [] t = 0
 accepted_times N s (c ∷ cs) t = unless (refusal_of N s c) 0 (asked_by c t) + accepted_times N (after_call N s c) cs t

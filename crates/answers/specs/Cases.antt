@@ -76,7 +76,7 @@ cut_off p = record { place = p; cause = cause.CutOff }
 abbrev pub missed : ℕ → ℕ → Finding
 missed p below = record { place = p; cause = cause.Missed (negsuc below) }
 
--- THE TWELVE
+-- THE SMALL NETS
 
 abbrev pub the_detour_is_taken_first : Case
 the_detour_is_taken_first =
@@ -130,7 +130,7 @@ a_survey_of_the_short_place =
 abbrev pub an_empty_input : Case
 an_empty_input = says_no detour (0 ∷ 1 ∷ 0 ∷ []) 100 nothing_done (fire 0) (InputEmpty 0)
 
--- THE LIMITS, FROM BOTH SIDES
+-- JUST WITHIN A LIMIT, AND ONE PAST IT
 
 abbrev pub a_tally_too_short : Case
 a_tally_too_short = says_no detour (1 ∷ 0 ∷ 0 ∷ []) 100 nothing_done (resume (1 ∷ 1 ∷ []) (exact (0 ∷ 0 ∷ 1 ∷ [])) 10) RowsUnfit
@@ -196,7 +196,7 @@ abbrev pub nothing_to_find : Case
 nothing_to_find =
     lists detour (1 ∷ 0 ∷ 0 ∷ []) (survey (1 ∷ 1 ∷ 1 ∷ []) (exact (0 ∷ 0 ∷ 1 ∷ [])) 192) nothing_done []
 
--- TWO AT FAULT: THE EARLIER CHECK DECIDES
+-- TWO THINGS WRONG AT ONCE
 
 abbrev pub an_empty_input_and_no_room : Case
 an_empty_input_and_no_room = says_no doubler (0 ∷ []) 0 (0 ∷ []) (fire 0) (InputEmpty 0)

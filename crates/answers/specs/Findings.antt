@@ -14,38 +14,38 @@ use Rattle.answers.specs.States.{State, Target, done_total, done_limit, findings
 use Rattle.refusals.specs.Answered.{answered}
 use Rattle.answers.specs.Answers.{first_wrong, unless, written, rows_fit, is_missed}
 
--- the signed number of a cause, 0 where it has none
+-- the blocks that a cause tells of
 abbrev pub number_of : Cause → ℤ
 number_of (cause.Short n) = n
 number_of cause.CutOff = pos 0
 number_of (cause.Missed n) = n
 
--- the finding at a short place: its final number
+-- a short place is listed with what the marking equation gives there
 abbrev pub short_finding : NetMeaning → Marking → Tally → ℕ → Finding
 short_finding N m x p = record { place = p; cause = cause.Short (final_number N m x p) }
 
--- the finding at a cut-off place
+-- a place that is cut off is listed with no number
 abbrev pub cut_off_finding : ℕ → Finding
 cut_off_finding p = record { place = p; cause = cause.CutOff }
 
--- the finding at a missed place: its final number less the target
+-- a missed place is listed with how many blocks it would have too many, or too few
 abbrev pub missed_finding : NetMeaning → Marking → Tally → Target → ℕ → Finding
 missed_finding N m x target p =
     record { place = p; cause = cause.Missed (final_number N m x p -ℤ pos (at target.numbers p)) }
 
--- a finding for each place below n that passes the test, by rising place
+-- the places below n that pass the test, lowest first, each made a finding
 abbrev pub found : (ℕ → Bool) → (ℕ → Finding) → ℕ → List Finding
 found b f zero = []
 found b f (suc n) = found b f n ++ cond (b n) (f n ∷ []) []
 
--- every short place, then every cut-off place, then every missed place
+-- the list of a survey, one cause after the other; a place may have several and is then listed with each
 abbrev pub findings : NetMeaning → Marking → Tally → Target → List Finding
 findings N m x target =
     found (is_short N m x) (short_finding N m x) N.places
     ++ (found (is_cut_off N m x) cut_off_finding N.places
     ++ found (is_missed N m x target) (missed_finding N m x target) N.places)
 
--- the checks of a survey, in their order, for memory of so many findings
+-- what a survey looks at, first to last, for memory of so many findings
 abbrev pub survey_checks : NetMeaning → State → List ℕ → Target → ℕ → List (Bool × Refusal)
 survey_checks N s tally target memory =
     (not (rows_fit N tally target), RowsUnfit)
@@ -57,12 +57,12 @@ survey_checks N s tally target memory =
 abbrev pub survey_refusal : NetMeaning → State → List ℕ → Target → ℕ → Option Refusal
 survey_refusal N s tally target memory = first_wrong (survey_checks N s tally target memory)
 
--- survey answers how many findings there are
+-- an accepted survey says how long its list is
 abbrev pub survey_answer : NetMeaning → State → List ℕ → Target → ℕ → Result ℕ Refusal
 survey_answer N s tally target memory =
     answered (survey_refusal N s tally target memory) (length (findings N s.counts (at tally) target))
 
--- the findings memory after a survey: the findings from its front, and the rest as it was
+-- what a survey leaves in the lent memory: its list, and behind it what was lent
 abbrev pub findings_memory : NetMeaning → State → List ℕ → Target → List Finding → List Finding
 findings_memory N s tally target memory =
     unless (survey_refusal N s tally target (length memory)) memory

@@ -11,7 +11,7 @@ abbrev pub byte_of : Kind → ℕ
 byte_of Exact = 0
 byte_of AtLeast = 1
 
--- the kind that has this byte; every other byte is refused
+-- which kind a byte is; there are two, and any byte above 1 is refused
 abbrev pub KindOf : ℕ → Result Kind Refusal → Type 0
 KindOf byte (Ok kind) = byte ≡ byte_of kind
 KindOf byte (Err refusal) = (1 < byte) × (refusal ≡ RowsUnfit)

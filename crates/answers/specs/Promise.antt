@@ -65,11 +65,11 @@ pub record NewOn (counts : Marking) (spare : ℕ) (s : State) : Type 0 where
 
 -- whatever a sitting holds
 pub record InAnyState (N : NetMeaning) (s : State) : Type 0 where
-  -- fire is accepted exactly if its four conditions hold, and is refused for the first that fails
+  -- a fire is accepted where nothing of four things hinders it, and else refused for the first of them that does
   pub fires_exactly : (t : ℕ) → (fire_refusal N s t ≡ None) ↔ FireFits N s t
   pub fire_refused_for : (t : ℕ) (e : Refusal) → (fire_refusal N s t ≡ Some e) ↔ WhyFire N s t e
   pub fire_says : (t : ℕ) → Says (fire_refusal N s t) tt (fire_answer N s t)
-  -- past its size checks a resume is accepted exactly if some order with these counts can be fired and meets the target
+  -- where the sizes are right, a tally is accepted just if there is an order of it that ends as the target wants
   pub accepts_exactly : (tally : List ℕ) (target : Target) (memory : ℕ) → size_refusal N s tally target memory ≡ None →
       (resume_refusal N s tally target memory ≡ None) ↔ ((order : List ℕ) × Such N s tally target order)
   -- with the sizes written out
@@ -78,12 +78,12 @@ pub record InAnyState (N : NetMeaning) (s : State) : Type 0 where
       ↔ (ResumeFits N s tally target memory × ((order : List ℕ) × Such N s tally target order))
   pub resume_refused_for : (tally : List ℕ) (target : Target) (memory : ℕ) (e : Refusal) →
       (resume_refusal N s tally target memory ≡ Some e) ↔ WhyResume N s tally target memory e
-  -- the order written is such an order, and every other such order comes later
+  -- what an accepted resume writes is the lexicographically least of these orders
   pub writes_the_first : (tally : List ℕ) (target : Target) (memory : ℕ) → resume_refusal N s tally target memory ≡ None →
       Such N s tally target (the_order N s tally)
       × ((other : List ℕ) → Such N s tally target other →
       (the_order N s tally ≡ other) ⊎ Earlier (the_order N s tally) other)
-  -- resume answers the order's length, which is the tally's total, and writes the order into its memory
+  -- how long the order is, that the caller is told so, what becomes of its memory, and that fires would do the same
   pub order_long : (tally : List ℕ) (target : Target) (memory : ℕ) → resume_refusal N s tally target memory ≡ None →
       length (the_order N s tally) ≡ steps_asked N (at tally)
   pub resume_says : (tally : List ℕ) (target : Target) (memory : ℕ) →
@@ -92,14 +92,14 @@ pub record InAnyState (N : NetMeaning) (s : State) : Type 0 where
       Writes (resume_refusal N s tally target (length memory)) (the_order N s tally) memory (order_memory N s tally target memory)
   pub resumes_as_fires : (tally : List ℕ) (target : Target) (memory : ℕ) → resume_refusal N s tally target memory ≡ None →
       AsFires N s tally target memory
-  -- survey is accepted exactly if its checks pass, and lists a finding exactly where there is one
+  -- a survey is accepted where its sizes are right, and then leaves nothing out and makes nothing up
   pub surveys_exactly : (tally : List ℕ) (target : Target) (memory : ℕ) →
       (survey_refusal N s tally target memory ≡ None) ↔ SurveyFits N s tally target memory
   pub survey_refused_for : (tally : List ℕ) (target : Target) (memory : ℕ) (e : Refusal) →
       (survey_refusal N s tally target memory ≡ Some e) ↔ WhySurvey N s tally target memory e
   pub finds_all : (tally : List ℕ) (target : Target) (memory : ℕ) → survey_refusal N s tally target memory ≡ None →
       AllFound N s.counts (at tally) target (findings N s.counts (at tally) target)
-  -- it answers how many they are, and writes them into its memory
+  -- what the caller of a survey is told, and what becomes of its memory
   pub survey_says : (tally : List ℕ) (target : Target) (memory : ℕ) →
       Says (survey_refusal N s tally target memory) (length (findings N s.counts (at tally) target)) (survey_answer N s tally target memory)
   pub survey_writes : (tally : List ℕ) (target : Target) (memory : List Finding) →
@@ -132,8 +132,9 @@ pub record Transcript (N : NetMeaning) (start : State) (calls : List Call) (said
 abbrev pub RowOf : List ℕ → ℕ → (ℕ → ℕ) → Type 0
 RowOf row n f = (length row ≡ n) × ((i : ℕ) → i < n → at row i ≡ f i)
 
--- another new sitting with the marking that the first had when new is given the first one's done row as tally and its
--- present marking as exact target; memory and spare suffice
+-- what a colleague needs to take over: a sitting that has done nothing, on any board with the blocks of the old start,
+-- and, out of the old sitting, its counters (to be done as one tally) and its marking (to be reached exactly); the
+-- colleague's memory and spare are large enough for that tally
 pub record HandOver (N : NetMeaning) (start now other : State) (tally numbers : List ℕ) (memory : ℕ) : Type 0 where
   pub new : New other
   pub same_start : AgreeBelow N.places other.counts start.counts
@@ -142,18 +143,19 @@ pub record HandOver (N : NetMeaning) (start now other : State) (tally numbers : 
   pub memory_holds : steps_asked N (at tally) ≤ memory
   pub spare_holds : yields_asked N (at tally) ≤ other.spare
 
--- its resume accepts and ends at that marking, with that done row, the spare differing as it did
+-- the take-over works: one resume brings the new sitting to where the old one is, counters too; if one of the boards
+-- had more spare at the start, it has as much more at the end
 pub record Replayed (N : NetMeaning) (start now other : State) (tally numbers : List ℕ) (memory : ℕ) : Type 0 where
   pub accepted : resume_refusal N other tally (exact numbers) memory ≡ None
   pub counts : AgreeBelow N.places (after_call N other (resume tally (exact numbers) memory)).counts now.counts
   pub spare : (after_call N other (resume tally (exact numbers) memory)).spare + start.spare ≡ now.spare + other.spare
   pub done : (t : ℕ) → (after_call N other (resume tally (exact numbers) memory)).done t ≡ now.done t
 
--- whatever calls were made on a new sitting, refused ones included
+-- what is true of a sitting at any time, however it was used since it was new, be it with calls that it refused
 pub record AfterCalls (N : NetMeaning) (start : State) (calls : List Call) : Type 0 where
   -- what was said to them is their transcript
   pub transcript : Transcript N start calls (answers_to N start calls)
-  -- each step's done count is its accepted fires and its numbers in the tallies that resume accepted
+  -- the counters stand for accepted calls alone: a fire adds 1 to its step's, a resume adds its tally
   pub counts_accepted_work : (t : ℕ) → (after_calls N start calls).done t ≡ accepted_times N start calls t
   -- the steps fired so far, in their order, lead from the start to what the sitting holds, with the done row as their counts
   pub history_leads : Leads N (history N start calls) start (after_calls N start calls)
@@ -161,10 +163,10 @@ pub record AfterCalls (N : NetMeaning) (start : State) (calls : List Call) : Typ
   -- the done total stays within its limit, and only steps of the net are done
   pub within_the_limit : done_total (after_calls N start calls) ≤ done_limit
   pub only_its_steps : (t : ℕ) → N.steps ≤ t → (after_calls N start calls).done t ≡ 0
-  -- the counts and spare add up to what they did, and no place outside the net changes
+  -- the board keeps its size: blocks on it and blocks that still fit, together; places past the net's stay as they are
   pub blocks_stay : sum_to (after_calls N start calls).counts 64 + (after_calls N start calls).spare ≡ sum_to start.counts 64 + start.spare
   pub outside_stays : (p : ℕ) → N.places ≤ p → (after_calls N start calls).counts p ≡ start.counts p
-  -- the counters replay elsewhere
+  -- whoever takes over from the counters alone gets as far
   pub replays : (other : State) (tally numbers : List ℕ) (memory : ℕ) →
       HandOver N start (after_calls N start calls) other tally numbers memory →
       Replayed N start (after_calls N start calls) other tally numbers memory

@@ -14,7 +14,7 @@ use Rattle.answers.specs.States.{State, Target, done_total, done_limit, findings
 
 -- FIRE
 
--- the four conditions of a fire
+-- nothing stands in the way of a fire
 pub record FireFits (N : NetMeaning) (s : State) (t : ℕ) : Type 0 where
   pub a_step : t < N.steps
   pub within_limit : done_total s + 1 ≤ done_limit
@@ -45,18 +45,18 @@ pub record ResumeFits (N : NetMeaning) (s : State) (tally : List ℕ) (target : 
   pub memory_holds : steps_asked N (at tally) ≤ memory
   pub spare_holds : yields_asked N (at tally) ≤ s.spare
 
--- the marking misses the target at p: it differs from an exact one, or is below an at-least one
+-- the marking does not reach the target at p, or does not cover it there, whichever the kind asks for
 abbrev pub Misses : Target → Marking → ℕ → Type 0
 Misses target m p =
     ((target.kind ≡ 0) × (m p ≢ at target.numbers p)) ⊎ ((target.kind ≡ 1) × (m p < at target.numbers p))
 
--- the marking meets the target: it is equal to an exact one at every place, or below an at-least one at none
+-- the marking is the target on the net's places (kind 0), or covers it (kind 1)
 abbrev pub Meets : NetMeaning → Target → Marking → Type 0
 Meets N target m =
     ((target.kind ≡ 0) × ((p : ℕ) → p < N.places → m p ≡ at target.numbers p))
     ⊎ ((target.kind ≡ 1) × ((p : ℕ) → p < N.places → at target.numbers p ≤ m p))
 
--- an order with the counts of the tally that can be fired now and meets the target
+-- the order does the tally from where the sitting is, and the marking after it is as wanted
 abbrev pub Such : NetMeaning → State → List ℕ → Target → List ℕ → Type 0
 Such N s tally target order =
     Realizes N s.counts (at tally) order × Meets N target (after N s.counts order)
@@ -114,7 +114,7 @@ pub data WhySurvey (N : NetMeaning) (s : State) (tally : List ℕ) (target : Tar
   memory_short : RowsFit N tally target → done_total s + steps_asked N (at tally) ≤ done_limit →
       memory < findings_needed → WhySurvey N s tally target memory ListFull
 
--- the final number of p differs from an exact target, or lies below an at-least one
+-- by the marking equation the tally does not bring p to what the target has there, or not up to it
 abbrev pub FinalMisses : NetMeaning → Marking → Tally → Target → ℕ → Type 0
 FinalMisses N m x target p =
     ((target.kind ≡ 0) × (final_number N m x p ≢ pos (at target.numbers p)))
@@ -139,7 +139,7 @@ pub record Exactly (n : ℕ) (P : ℕ → Type 0) (ps : List ℕ) : Type 0 where
 abbrev pub findings_at : (ℕ → Cause) → List ℕ → List Finding
 findings_at wrong places = map (λ p. record { place = p; cause = wrong p }) places
 
--- a finding for every short place, then for every cut-off place, then for every missed place, and no other
+-- the list has three parts, one for each cause; a part has just the places with that cause, each once, lowest first
 pub record AllFound (N : NetMeaning) (m : Marking) (x : Tally) (target : Target) (list : List Finding) : Type 0 where
   pub short_places : List ℕ
   pub cut_off_places : List ℕ
@@ -147,10 +147,10 @@ pub record AllFound (N : NetMeaning) (m : Marking) (x : Tally) (target : Target)
   pub all_short : Exactly N.places (theory.Short N m x) short_places
   pub all_cut_off : Exactly N.places (IsCutOff N m x) cut_off_places
   pub all_missed : Exactly N.places (FinalMisses N m x target) missed_places
-  -- a missed place's number, which together with its target is its final number
+  -- how far a missed place is off: added to the target it gives what the tally leaves there
   pub missed_number : ℕ → ℤ
   pub with_the_target : (p : ℕ) → missed_number p +ℤ pos (at target.numbers p) ≡ final_number N m x p
-  -- a short place's number is its final number
+  -- a short place has what the tally leaves there, a place that is cut off has no number
   pub listed : list ≡ findings_at (λ p. cause.Short (final_number N m x p)) short_places
       ++ (findings_at (λ p. cause.CutOff) cut_off_places
       ++ findings_at (λ p. cause.Missed (missed_number p)) missed_places)

@@ -5,14 +5,14 @@ use Rattle.theory.specs.Nets.{NetMeaning}
 use Rattle.theory.specs.Firing.{Marking}
 use Rattle.theory.specs.Tallies.{Tally}
 
--- a sitting's board and done row: the blocks at each place (the marking), the blocks that still fit, and how often
--- each step was done
+-- what a sitting has to remember of its board and of its work: the marking, how many blocks more would fit on the
+-- board, and the Parikh vector of all steps fired since it was new
 pub record State : Type 0 where
   pub counts : Marking
   pub spare : ℕ
   pub done : Tally
 
--- a new sitting has done no step; its board is any
+-- the sitting is new: nothing was fired yet, and its board may hold what it likes
 abbrev pub New : State → Type 0
 New s = (t : ℕ) → s.done t ≡ 0
 
@@ -28,11 +28,11 @@ done_total s = sum_to s.done 128
 abbrev pub done_limit : ℕ
 done_limit = 65535
 
--- the fewest findings that the memory of a survey holds: one of each cause at each of 64 places
+-- how much memory a survey asks for: with three causes and 64 places no list is longer
 abbrev pub findings_needed : ℕ
 findings_needed = 192
 
--- a target: a number for each place, and a kind: 0 exact, 1 at least
+-- a target marking, and whether it is to be reached exactly (kind 0) or covered (kind 1)
 pub record Target : Type 0 where
   pub numbers : List ℕ
   pub kind : ℕ

@@ -14,12 +14,12 @@ ghost use Rattle.theory.specs.Tallies.{Tally};
 
 use refusals::Refusal;
 
-/// How the final numbers of an order are to meet a target; the calls take it as a byte.
+/// How the marking after an order is held against a target; the calls take it as a byte.
 #[derive(Clone, Copy, PartialEq, Eq, Debug)]
 pub enum Kind {
-    /// 0: each final number is the target's.
+    /// 0: as many blocks at each place as the target has (reachability).
     Exact,
-    /// 1: no final number is below the target's.
+    /// 1: as many blocks at each place as the target has, or more (coverability).
     AtLeast,
 }
 
@@ -60,18 +60,18 @@ impl From<Kind> for u8 {
     }
 }
 
-/// What is wrong at a place, with its signed number.
+/// Why a tally cannot be done, or not as wanted, because of a place; the numbers are blocks.
 #[derive(Clone, Copy, PartialEq, Eq, Debug)]
 pub enum Cause {
-    /// The place is short; its final number, which is below zero.
+    /// The tally takes more from the place than lies there and comes there: what would be left, at most -1.
     Short(i64),
-    /// The place is cut off.
+    /// The tally uses the place, and no block can come to it.
     CutOff,
-    /// The place is missed; its final number less the target.
+    /// The tally leaves too many blocks at the place (above 0, exact targets only) or too few (below 0).
     Missed(i64),
 }
 
-/// What a survey finds: a place, and what is wrong there.
+/// A place of the net, 0 to 63, that stands in the way of a tally, and why.
 #[derive(Clone, Copy, PartialEq, Eq, Debug)]
 pub struct Finding {
     pub place: u8,
@@ -79,7 +79,7 @@ pub struct Finding {
 }
 
 impl Cause {
-    /// The signed number of the cause; 0 where it has none.
+    /// The blocks of the cause; a place that is cut off has 0.
     pub fn number(self) -> i64
         ensures { result ≡ number_of self }
     {

@@ -31,7 +31,6 @@ impl<'a> Table<'a> {
         board: &B,
         answer: Answer,
     ) -> anyhow::Result<()> {
-        // `sitting_vectors` begins its digests with these two lines too: `comparisons`, which both share, knows no boards
         let mut state = Digest::of(&all_counts(board));
         state.add(board.spare());
         let state = state.value;

@@ -4,11 +4,11 @@ use Rattle.theory.specs.Sums.{sum_to}
 use Rattle.refusals.specs.declared.Refusal.{Refusal}
 use Rattle.refusals.specs.declared.Refusal.TheVariants.{NoSuchPlace, PlaceEmpty, PutAboveSpare}
 
--- what the counts of a board and its spare add up to at most
+-- the room of the largest board, in blocks; a signed number of 32 bits holds it
 abbrev pub board_limit : ℕ
 board_limit = 2147483647
 
--- the law of every board: its 64 counts and spare stay within the limit
+-- the law of every board: what lies on it and what still fits is no more than the largest board has room for
 abbrev pub BoardLaw : (ℕ → ℕ) → ℕ → Type 0
 BoardLaw counts spare = sum_to counts 64 + spare ≤ board_limit
 

@@ -1,4 +1,4 @@
-//! What every board means, the law that every board keeps, its four calls, and a fifth for many moves in one go.
+//! The trait of boards: where the blocks of a sitting lie, and five calls that read and move them.
 ghost use Rattle.std.specs.Prelude.{◌≡◌, ℕ, ◌+◌, ◌<◌, MatchOption, ◌⊎◌};
 ghost use Rattle.theory.specs.Rows.{at};
 ghost use Rattle.boards.specs.Boards.{BoardLaw, IndexSays, TakeSays, PutSays, MoveAllSays};
@@ -12,7 +12,7 @@ pub const PLACES: usize = 64;
 /// The highest place of a board.
 pub const LAST_PLACE: u8 = PLACES as u8 - 1;
 
-/// The place as an index into a row of all places; refused above place 63.
+/// The place as an index into a row of all places. Refused: `NoSuchPlace` from place 64 on.
 pub fn index_of(place: u8) -> Result<usize, Refusal>
     ensures answer { IndexSays place result }
 {
@@ -22,7 +22,7 @@ pub fn index_of(place: u8) -> Result<usize, Refusal>
     Ok(usize::from(place))
 }
 
-/// What the counts of a board and its spare add up to at most.
+/// The most blocks that a board has room for, those that lie on it included.
 pub const BOARD_LIMIT: u32 = 2_147_483_647;
 
 /// The number raised by `more` and then lowered by `fewer`; none where one of the two is no `u32`.
@@ -32,7 +32,8 @@ pub fn raised_and_lowered(number: u32, more: u32, fewer: u32) -> Option<u32>
     number.checked_add(more)?.checked_sub(fewer)
 }
 
-/// A board: how many blocks (tokens) lie at each of 64 places (a marking), and how many more may be put down.
+/// A board holds a marking: blocks (tokens) at 64 places, numbered from 0, of which a net uses the first ones. Spare
+/// is the room that is left, in blocks. A refused call leaves all counts and spare as they were.
 pub trait Board {
     // how many blocks lie at each place
     ghost counts: { Self → ℕ → ℕ };
@@ -40,19 +41,19 @@ pub trait Board {
     // how many more blocks may be put down
     ghost spare: { Self → ℕ };
 
-    /// How many blocks lie at the place; 0 above place 63.
+    /// How many blocks lie at the place; from 64 on there are no places, so none.
     fn count(&self, place: u8) -> u32
         ensures answer { result ≡ counts self.now place };
 
-    /// How many more blocks may be put down.
+    /// How many more blocks the board has room for.
     fn spare(&self) -> u32
         ensures answer { result ≡ spare self.now };
 
-    /// Moves one block from the place to spare.
+    /// Moves one block from the place to spare. Refused: `NoSuchPlace`, else `PlaceEmpty` where none lies.
     fn take(&mut self, place: u8) -> Result<(), Refusal>
         ensures answer { TakeSays place (counts self.old) (spare self.old) result (counts self.new) (spare self.new) };
 
-    /// Moves n blocks from spare to the place.
+    /// Moves n blocks, or none, from spare to the place. Refused: `NoSuchPlace`, else `PutAboveSpare` where fewer fit.
     fn put(&mut self, place: u8, n: u32) -> Result<(), Refusal>
         ensures answer { PutSays place n (counts self.old) (spare self.old) result (counts self.new) (spare self.new) };
 

@@ -21,7 +21,7 @@ pub struct CountBoard {
 }
 
 impl CountBoard {
-    /// A board with no block and no spare.
+    /// A board that holds nothing and has room for nothing, until a row is loaded.
     pub fn new() -> CountBoard
         ensures counts { result.counts ≡ replicate 64 0 }
         ensures spare { result.spare ≡ 0 }
@@ -32,8 +32,8 @@ impl CountBoard {
         }
     }
 
-    /// Takes over the 64 counts of the row and the spare; refused, and nothing changed, where the
-    /// row has another length or the board would break the law.
+    /// Sets all counts, in blocks from place 0 on, and spare. Refused: `BoardRowUnfit`, with the board as it was,
+    /// where the row has fewer or more than 64 numbers, or they and spare are more than `BOARD_LIMIT` together.
     pub fn load(&mut self, row: &[u32], spare: u32) -> Result<(), Refusal>
         ensures answer { LoadSays row.now spare (at_place self.old.counts) self.old.spare result (at_place self.new.counts) self.new.spare }
     {

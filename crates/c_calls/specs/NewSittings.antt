@@ -29,7 +29,7 @@ new_refusal file counts spare tally target memory =
 abbrev pub new_order : List ℕ → List ℕ → ℕ → List ℕ → List ℕ
 new_order file counts spare tally = the_order (chained_net file) (new_on (at counts) spare) tally
 
--- the length of the order, which is written from the front of the memory; or the refusal, and the memory as it was
+-- what is said of the resume, and the memory after it
 pub record NewResumed (file counts : List ℕ) (spare : ℕ) (tally : List ℕ) (target : Target) (memory : List ℕ) (r : Result ℕ Refusal) (memory' : List ℕ) : Type 0 where
   pub answer : r ≡ answered (new_refusal file counts spare tally target (length memory)) (length (new_order file counts spare tally))
   pub order : memory' ≡ unless (new_refusal file counts spare tally target (length memory)) memory (written (new_order file counts spare tally) memory)

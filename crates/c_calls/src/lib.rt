@@ -16,8 +16,8 @@ use checks::Target;
 use new_sitting::resume_new;
 use sheets::judge;
 
-/// Judges a sheet: writes its line from the front of the text memory, alters no more of it, and answers
-/// the line's length. Refused only where the memory is too short for the line.
+/// Judges a sheet: puts the line of its verdict, line end included, at the start of `text`, and says how many bytes
+/// that is. Refused: 22 where the line is longer than `text`, which is then as it was.
 #[unsafe(no_mangle)]
 pub extern "C" fn zaldrum_judge(sheet: &[u8], text: &mut [u8]) -> Answer
     ensures line { LineSaid (sheet_line sheet.now) text.old result text.new }
@@ -26,9 +26,9 @@ pub extern "C" fn zaldrum_judge(sheet: &[u8], text: &mut [u8]) -> Answer
     answer_of(judge(sheet, text))
 }
 
-/// Resumes a tally on a new sitting with the net of a chained file and a count board with these counts and
-/// this spare: writes the first order from the front of the order memory, alters no more of it, and answers
-/// the order's length.
+/// Does a tally on a sitting made for it: the net is that of a chained file, the board a count board with these 64
+/// counts and this spare, in blocks. Notes the steps of the first order in `order`, and says how many they are.
+/// Refused as the file is, else 19 for a row of counts that makes no board, else as `Sitting::resume`.
 #[unsafe(no_mangle)]
 pub extern "C" fn zaldrum_resume(
     file: &[u8],

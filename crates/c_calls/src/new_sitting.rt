@@ -8,8 +8,7 @@ use nets::chained::ChainedNet;
 use refusals::Refusal;
 use sittings::sitting::Sitting;
 
-/// Resumes the tally on a new sitting with the net of the file and a count board with these counts and this
-/// spare, and answers the order's length.
+/// Makes the sitting, resumes the tally on it and lets it go.
 pub(crate) fn resume_new(
     file: &[u8],
     counts: &[u32],

@@ -30,7 +30,7 @@ abbrev pub answered : {X : Type 0} → Result X Refusal → Answer
 answered (Ok x) = Accepted
 answered (Err e) = Refused e
 
--- what is printed of an answer: the number, `ok`, or `no` with the refusal's number and its detail
+-- what is printed of an answer: its number, or whether the call was accepted, and if not the refusal in two numbers
 abbrev pub shown_answer : Answer → List ℕ
 shown_answer (Number n) = decimal n
 shown_answer Accepted = codes "ok"

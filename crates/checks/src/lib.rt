@@ -16,15 +16,13 @@ use nets::net::{MOST_PLACES, Net};
 use refusals::Refusal;
 use totals::asked::{done_total, steps_asked};
 
-/// The most steps that a sitting does.
+/// The most steps that a sitting does while it lasts.
 pub const DONE_LIMIT: u64 = 65535;
 
-/// The fewest findings that the memory of a survey holds: one of each cause at each of 64 places.
+/// How many findings the memory of a survey has room for, at least: with three causes no net makes more.
 pub const FINDINGS_NEEDED: usize = 3 * MOST_PLACES;
 
-/// What the marking is to be after an order: a number for each place, and a kind. The calls are lent the
-/// tally and the memory beside it, as their rules name them, and hand net and done row on from the sitting; a
-/// struct of these would be taken apart again in each function.
+/// The marking that an order is to end at, in blocks for each place of the net, and whether it is to be just that.
 #[derive(Clone, Copy)]
 pub struct Target<'a> {
     pub numbers: &'a [u32],
@@ -32,8 +30,8 @@ pub struct Target<'a> {
     pub kind: u8,
 }
 
-/// The kind of the target; refused unless it is known, and there are as many numbers as steps in the
-/// tally and as places in the target.
+/// The kind of the target. Refused: `RowsUnfit`, unless there is one, the tally has a number for each step and the
+/// target one for each place.
 pub fn check_rows<N: Net>(net: &N, tally: &[u16], target: Target<'_>) -> Result<Kind, Refusal>
     ensures { Checked (if rows_fit (N.meaning net.now).net tally.now (target_of target.entry.numbers.now target.entry.kind) then None else Some RowsUnfit) target.entry.kind result }
 {
@@ -46,8 +44,8 @@ pub fn check_rows<N: Net>(net: &N, tally: &[u16], target: Target<'_>) -> Result<
     Kind::try_from(target.kind)
 }
 
-/// The kind of the target of a resume, or the refusal of the first size check that fails. The caller says how many
-/// blocks the tally yields, since it needs the flow of the tally anyhow.
+/// The kind of the target of a resume. Refused, for the first that is wrong: `RowsUnfit`, `DoneLimit`,
+/// `OrderMemoryShort`, `SpareShort`. The caller says how many blocks the tally yields, as it has the tally's flow.
 pub fn check_sizes<N: Net>(
     net: &N,
     spare: u32,
@@ -75,7 +73,7 @@ pub fn check_sizes<N: Net>(
     Ok(kind)
 }
 
-/// The kind of the target of a survey, or the refusal of the first check that fails.
+/// The kind of the target of a survey. Refused, for the first that is wrong: `RowsUnfit`, `DoneLimit`, `ListFull`.
 pub fn check_survey<N: Net>(
     net: &N,
     done: &[u16],

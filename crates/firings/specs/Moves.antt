@@ -7,7 +7,7 @@ use Rattle.answers.specs.Calls.{yields_in}
 use Rattle.answers.specs.States.{yields_of, yields_asked}
 use Rattle.boards.specs.Boards.{MoveAllSays}
 
--- the step is the net's, its input place holds a block, and spare holds its yields once that block is taken
+-- the transition is enabled, and the board has room for its yields once the block that it takes has made some
 abbrev pub can_move : NetMeaning → Marking → ℕ → ℕ → Bool
 can_move N m spare t =
     nat_lt t N.steps && (nat_lt 0 (m (N.input t)) && not (nat_lt (spare + 1) (yields_of N t)))

@@ -1,4 +1,4 @@
-//! Firings: the firing rule carried out on a board, by one take and one put for each place of the yields.
+//! Firings: a step fired on any board, by the board's own calls.
 #![tactic(auto)]
 
 ghost use Rattle.std.specs.Prelude.{◌≡◌, ℕ, ◌+◌, ◌-◌, ◌≤◌, true};
@@ -12,14 +12,12 @@ use nets::net::Net;
 use place_sets::PlaceSet;
 use totals::asked::yields_of;
 
-/// One put for each place where the step yields, by rising place.
+/// Puts the yields of a step down, lowest place first, so that every board fills alike.
 fn put_yields<N: Net, B: Board>(net: &N, board: &mut B, step: u16)
     requires { yields_of (N.meaning net.now).net step ≤ B.spare board.old }
     ensures counts { (p : ℕ) → B.counts board.new p ≡ B.counts board.old p + (N.meaning net.now).net.yields step p }
     ensures spare { B.spare board.new + yields_of (N.meaning net.now).net step ≡ B.spare board.old }
 {
-    // A walk over a set, as `add_yields` of `schedules` is: an iterator for it would be longer than the loop and no
-    // plainer.
     let places = net.yield_places(step);
     let mut done = PlaceSet::empty();
     while let Some(place) = places.minus(done).first() {

@@ -3,17 +3,17 @@ use Rattle.std.specs.Prelude.{◌≡◌, ℕ, ◌<◌, cond, List, length, Ok, E
 use Rattle.refusals.specs.declared.Refusal.{Refusal}
 use Rattle.refusals.specs.declared.Refusal.TheVariants.{NotARenaming}
 
--- a row with each of the 64 places once (a permutation)
+-- a permutation of the places 0 to 63
 pub record IsRenaming (row : List ℕ) : Type 0 where
   pub long : length row ≡ 64
   pub inside : (p : ℕ) → p < 64 → slice_index row p < 64
   pub apart : (p q : ℕ) → p < 64 → q < 64 → slice_index row p ≡ slice_index row q → p ≡ q
 
--- the count at a place is the count below of the place that it stands for
+-- what lies at p lies below at the place with the number in the row's entry p
 abbrev pub renamed : List ℕ → (ℕ → ℕ) → ℕ → ℕ
 renamed row counts p = cond (nat_lt p 64) (counts (slice_index row p)) 0
 
--- each place's number stands at the place below that it stands for
+-- the numbers of a row by place, in the row that has them by the places below
 pub record RowBelow (row numbers below : List ℕ) : Type 0 where
   pub long : length below ≡ 64
   pub placed : (p : ℕ) → p < 64 → slice_index below (slice_index row p) ≡ slice_index numbers p

@@ -1,4 +1,4 @@
-//! The allowance: a board over any board, with a limit of its own on what may be put down.
+//! The allowance: a board through which less may be put down than fits below.
 ghost use Rattle.std.specs.Prelude.{◌≡◌, ◌≤◌, min};
 ghost use Rattle.boards.specs.Boards.{board_limit, TakeSays, PutSays, MoveAllSays};
 ghost use Rattle.theory.specs.Rows.{at};
@@ -8,7 +8,7 @@ ghost use Rattle.std.proofs.Common.{rules, arith};
 use boards::board::{BOARD_LIMIT, Board, PLACES, index_of, raised_and_lowered};
 use refusals::Refusal;
 
-/// A board over another, of whose spare no more than the number left may be used.
+/// A board over another that grants less room: for `left` blocks more, or for what still fits below if that is less.
 // clauses name the fields: the value of an `impl Model` would be a record of the same two
 #[derive(Drop)]
 pub struct Allowance<B: Board> {
@@ -18,7 +18,7 @@ pub struct Allowance<B: Board> {
 }
 
 impl<B: Board> Allowance<B> {
-    /// An allowance over the board; more than the limit of every board counts as that limit.
+    /// Grants room for `left` blocks beside those on the board, and never for more than `BOARD_LIMIT`.
     pub fn new(below: B, left: u32) -> Allowance<B>
         ensures below { result.below ≡ below }
         ensures left { result.left ≡ min left board_limit }

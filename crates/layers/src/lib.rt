@@ -1,4 +1,4 @@
-//! Layers: boards over any board, which pile up in any number and sequence.
+//! Layers: boards that own a board and pass its calls on, changed a little; layers stack to any height.
 #![tactic(auto)]
 
 pub mod allowance;

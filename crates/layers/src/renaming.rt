@@ -1,4 +1,4 @@
-//! The renaming: a board over any board, whose places stand for those below in another sequence.
+//! The renaming: a board that numbers the places of the board below in its own way.
 ghost use Rattle.std.specs.Prelude.{◌≡◌, ℕ, ◌<◌, length, MatchBool, nat_lt, slice_index, slice_index_or};
 ghost use Rattle.std.proofs.Common.{◌∙◌, arith, rules};
 ghost use Rattle.boards.specs.Boards.{TakeSays, PutSays, MoveAllSays};
@@ -12,7 +12,7 @@ use boards::board::{Board, PLACES, index_of};
 use refusals::Refusal;
 use std::array;
 
-/// A board over another: the row says for each place which one below it stands for.
+/// A board over another whose places have other numbers here: entry p of the row is what the place p is called below.
 // clauses name the fields: under an `impl Model` the laws of a board stay open, which rest on the ghost fields
 #[derive(Drop)]
 pub struct Renaming<B: Board> {
@@ -22,7 +22,7 @@ pub struct Renaming<B: Board> {
 }
 
 impl<B: Board> Renaming<B> {
-    /// A renaming that changes no number.
+    /// Until a row is loaded each place has the number that it has below.
     pub fn new(below: B) -> Renaming<B>
         ensures below { result.below ≡ below }
         ensures row { (p : ℕ) → p < 64 → slice_index result.row p ≡ p }
@@ -34,7 +34,7 @@ impl<B: Board> Renaming<B> {
         }
     }
 
-    /// Takes over the row; refused, and nothing changed, unless it has each of the 64 places once.
+    /// Numbers the places anew. Refused: `NotARenaming`, with the old row kept, unless it is a permutation of 0 to 63.
     pub fn load(&mut self, row: &[u8]) -> Result<(), Refusal>
         ensures answer { RenameSays row.now self.old.row result self.new.row }
         ensures below { self.new.below ≡ self.old.below }
@@ -54,7 +54,7 @@ impl<B: Board> Renaming<B> {
     }
 }
 
-// whether the row has each of the 64 places once
+// whether the row is a permutation of the places
 fn is_renaming(row: &[u8]) -> bool
     ensures { MatchBool result (IsRenaming row.now) (IsRenaming row.now → ⊥) }
 {

@@ -22,7 +22,7 @@ words word row = word ++ (numbers row ++ (10 ∷ []))
 abbrev pub ok_line : List ℕ → List ℕ
 ok_line order = words (codes "ok") order
 
--- the line of a refused sheet: `no`, the refusal's number and its detail
+-- the line of a refused sheet has two numbers: which refusal, and what it names
 abbrev pub no_line : Refusal → List ℕ
 no_line e = words (codes "no") (number_of e ∷ detail_of e ∷ [])
 

@@ -11,17 +11,17 @@ use numbers::put_numbers;
 use refusals::Refusal;
 use room::room_after;
 
-/// Writes the line of an accepted sheet from the front of the text memory, and answers its length: `ok`
-/// and the steps of the order. Refused, before anything is written, where the memory is too short.
+/// Puts the line of an accepted sheet at the start of the text memory: `ok`, and the steps of its order. Says how many
+/// bytes that is, line end included. Refused: `TextMemoryShort`, with nothing written, where they are too many.
 pub fn write_order(text: &mut [u8], order: &[u16]) -> Result<usize, Refusal>
     ensures { LineWritten (ok_line order.now) text.old result text.new }
 {
     write_words(text, b"ok", order)
 }
 
-/// Writes the line of a refused sheet from the front of the text memory, and answers its length: `no`, the
-/// refusal's number and its detail. Refused, before anything is written, where the memory is too short; 15 bytes are
-/// enough.
+/// Puts the line of a refused sheet at the start of the text memory: `no`, which refusal it is, and the number of the
+/// step, arc or place that it names. Says how many bytes that is, and is refused, as `write_order`; no line of this
+/// sort has more than 15 bytes.
 pub fn write_refusal(text: &mut [u8], refusal: Refusal) -> Result<usize, Refusal>
     ensures line { LineWritten (no_line refusal) text.old result text.new }
     ensures fits { 15 ≤ length text.old → IsOk result }

@@ -23,7 +23,7 @@ abbrev pub Adds : {X T : Type 0} → T → List T → ℕ → Result X Refusal �
 Adds x before n (Ok u) after n' = Added x before n after n'
 Adds x before n (Err e) after n' = Full before n e after n'
 
--- the element at a position below the length; none from the length on
+-- the elements are what the first n entries of the memory hold; past these there is none
 abbrev pub Gets : {T : Type 0} → List T → ℕ → ℕ → Option (Bor T) → Type 0
 Gets memory n i (Some x) = (i < n) × (x.now ≡ slice_index_or memory i x.now)
 Gets memory n i None = n ≤ i
@@ -38,7 +38,7 @@ pub record Extended {T : Type 0} (items before : List T) (n : ℕ) (after : List
   pub memory : after ≡ take n before ++ (items ++ drop (n + length items) before)
   pub len : n' ≡ n + length items
 
--- what an add of all that is found leaves: refused where there is no room for one item of each number
+-- what an add of all that is found leaves; it asks for an entry for each number, found or not
 abbrev pub AddsFound : {X T : Type 0} → (ℕ → Option T) → ℕ → List T → ℕ → Result X Refusal → List T → ℕ → Type 0
 AddsFound at end before n (Ok u) after n' = (n + end ≤ length before) × Extended (found_below at end) before n after n'
 AddsFound at end before n (Err e) after n' = (length before < n + end) × (e ≡ ListFull) × (after ≡ before) × (n' ≡ n)

@@ -1,4 +1,4 @@
-//! The bounded list: elements of any kind, one behind the other, at the front of lent memory.
+//! The bounded list: a list whose memory is its user's, and so is the bound.
 #![tactic(auto)]
 
 ghost use Rattle.std.specs.Prelude.{◌≡◌, ℕ, ◌+◌, ◌<◌, ◌≤◌, length, Option};
@@ -6,8 +6,8 @@ ghost use Rattle.lists.specs.Lists.{Adds, AddsFound, Gets, Writes};
 
 use refusals::Refusal;
 
-/// A list that keeps its elements in memory that its user lends it, and never grows past it: the calls
-/// write into lent memory, so a `Vec` is not allowed here.
+/// A list whose elements lie in memory that its user lends it, so that a call which fills it allocates nothing. It
+/// holds as many as the memory has entries, and entries that it does not use stay as they were lent.
 #[derive(Drop)]
 pub struct BoundedList<'a, T> {
     memory: &'a mut [T],
@@ -25,7 +25,7 @@ impl<'a, T: Drop> BoundedList<'a, T> {
         BoundedList { memory, len: 0 }
     }
 
-    /// How many elements it has.
+    /// How many elements were added.
     pub fn len(&self) -> usize
         ensures { result ≡ self.now.len }
     {
@@ -40,14 +40,14 @@ impl<'a, T: Drop> BoundedList<'a, T> {
         memory.len() - self.len
     }
 
-    /// The element at a position, absent from the length on.
+    /// The element that was added after `i` others; none where there are no more than `i`.
     pub fn get(&self, i: usize) -> Option<&T>
         ensures { Gets self.now.memory.now self.now.len i result }
     {
         self.memory[..self.len].get(i)
     }
 
-    /// One element more at the end; refused when the memory is full.
+    /// Appends an element. Refused: `ListFull`, with the list as it was, once each entry of the memory is used.
     // `lender` stands in each call that is lent the list: it is about two values of it, which no field can hold
     pub fn add(&mut self, x: T) -> Result<(), Refusal>
         ensures lender { self.new.memory.ghost_name ≡ self.old.memory.ghost_name }
@@ -62,8 +62,8 @@ impl<'a, T: Drop> BoundedList<'a, T> {
     }
 }
 
-/// Adds all that is found at the numbers below `end`, by rising number; refused, before anything is
-/// added, where there is no room for one item of each number.
+/// Adds what is found at number 0, then at 1 and so on below `end`. Refused: `ListFull`, with the list as it was,
+/// where fewer than `end` entries are free, be it that less would be found.
 pub fn add_found<T: Drop, F: Fn(u16) -> Option<T>>(
     list: &mut BoundedList<T>,
     end: u16,
@@ -76,8 +76,7 @@ pub fn add_found<T: Drop, F: Fn(u16) -> Option<T>>(
     if list.room() < usize::from(end) {
         return Err(Refusal::ListFull);
     }
-    // A loop, since each item is added to the lent list: `try_for_each` would be no plainer, with a `Result` that
-    // is dropped as here.
+    // there is room for all, so no add is refused
     for number in 0..end {
         if let Some(item) = find(number) {
             let _ = list.add(item);
@@ -86,8 +85,8 @@ pub fn add_found<T: Drop, F: Fn(u16) -> Option<T>>(
     Ok(())
 }
 
-/// Writes a whole row at the front of the memory through a list, and answers its length; refused,
-/// before anything is written, when the memory is shorter than the row.
+/// Copies a row into the first entries of the memory, and says how many these are. Refused: `ListFull`, with the
+/// memory as it was, where the row is longer.
 pub fn write_row<T: Copy>(memory: &mut [T], row: &[T]) -> Result<usize, Refusal>
     ensures { Writes row.now memory.old result memory.new }
 {

@@ -104,16 +104,15 @@ fn arc_unfit(file: &[u8], number: u16) -> bool
                 && arc.place < arc_at(file, arc.next).place))
 }
 
-/// How many bytes the head tells.
+/// How long a file with this head is, in bytes.
 pub fn file_end(file: &[u8]) -> usize
     ensures { result ≡ chained_end file.now }
 {
     HEAD + 3 * usize::from(byte_at(file, 1)) + 4 * usize::from(arcs(file))
 }
 
-/// The checks of the head, and of the length where the file is to have so many bytes.
-// Beside that of the grid net: this head has two bytes more and one check more. The two share the pattern of their
-// checks; a shared one would be handed each of its numbers.
+/// Whether the head keeps the limits of a net, and the file is `end` bytes long; a sheet ends behind its net. Refused
+/// for the first that is wrong: `WrongLength` without a head, `PlacesOutOfRange`, `TooManyStepsOrArcs`, `WrongLength`.
 pub fn check_head_to(file: &[u8], end: usize) -> Result<(), Refusal>
     ensures { result ≡ answered (head_refusal file.now end) tt }
 {
@@ -188,10 +187,8 @@ fn read_chain(file: &[u8], first: u16, row: &mut [u8; MOST_PLACES]) -> PlaceSet
     places
 }
 
-// `new` and `load` stand in both makes of net: a trait for them would be no plainer, as each clause names the
-// definition of its own format.
 impl<'a> ChainedNet<'a> {
-    /// A net of one place and no steps.
+    /// The smallest net, in which nothing can be fired.
     pub fn new() -> ChainedNet<'a>
         ensures places { (chained_net result.file.now).places ≡ 1 }
         ensures steps { (chained_net result.file.now).steps ≡ 0 }
@@ -199,7 +196,7 @@ impl<'a> ChainedNet<'a> {
         ChainedNet { file: &ONE_PLACE }
     }
 
-    /// Reads a whole file; a refused one leaves the net as it was.
+    /// Becomes the net of a whole file; refused as `try_from`, it stays the net that it was.
     pub fn load(&mut self, file: &'a [u8]) -> Result<(), Refusal>
         ensures answer { result ≡ answered (chained_refusal file.now) tt }
         ensures after { self.new.file.now ≡ (if is_ok result then file.now else self.old.file.now) }
@@ -209,7 +206,7 @@ impl<'a> ChainedNet<'a> {
     }
 }
 
-/// Reads a whole file, or says why it is refused.
+/// Reads a whole file. Refused: as in `check_head_to`, else the least `StepUnfit`, `ArcUnfit` or `StepWithoutYield`.
 impl<'a> TryFrom<&'a [u8]> for ChainedNet<'a> {
     type Error = Refusal;
 

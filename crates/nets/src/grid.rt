@@ -86,7 +86,7 @@ fn check_rows(file: &[u8]) -> Result<(), Refusal>
 }
 
 impl<'a> GridNet<'a> {
-    /// A net of one place and no steps.
+    /// The smallest net, in which nothing can be fired.
     pub fn new() -> GridNet<'a>
         ensures places { (grid_net result.file.now).places ≡ 1 }
         ensures steps { (grid_net result.file.now).steps ≡ 0 }
@@ -94,7 +94,7 @@ impl<'a> GridNet<'a> {
         GridNet { file: &ONE_PLACE }
     }
 
-    /// Reads a whole file; a refused one leaves the net as it was.
+    /// Becomes the net of a whole file; refused as `try_from`, it stays the net that it was.
     pub fn load(&mut self, file: &'a [u8]) -> Result<(), Refusal>
         ensures answer { result ≡ answered (grid_refusal file.now) tt }
         ensures after { self.new.file.now ≡ (if is_ok result then file.now else self.old.file.now) }
@@ -104,7 +104,7 @@ impl<'a> GridNet<'a> {
     }
 }
 
-/// Reads a whole file, or says why it is refused.
+/// Reads a whole file. Refused: for its head or length, else with the least `StepUnfit`, or `StepWithoutYield`.
 impl<'a> TryFrom<&'a [u8]> for GridNet<'a> {
     type Error = Refusal;
 

@@ -10,7 +10,7 @@ use reached::cut_off::cut_off_places;
 use refusals::Refusal;
 use totals::finals::Asked;
 
-/// Refused for the least short place, else for the least cut-off place, else for the least missed place.
+/// Refused: `Short`, else `CutOff`, else `Missed`, each with the least place that it is true of.
 pub(crate) fn check_causes<N: Net>(asked: &Asked<'_, N>) -> Result<(), Refusal>
     ensures { result ≡ answered (cause_refusal (N.meaning asked.now.net.now).net (at asked.now.counts.now) (at asked.now.tally.now) (target_with asked.now.target.now asked.now.kind)) tt }
 {

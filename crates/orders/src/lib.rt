@@ -20,9 +20,8 @@ use refusals::Refusal;
 use totals::finals::Asked;
 use totals::flow::Flow;
 
-/// Fires the first order of the tally on the board and writes it from the front of the memory, where
-/// the sizes fit and some order of the tally meets the target; answers the order's length. `done`
-/// has the steps done before, which count against their limit.
+/// Does the tally on the board by its first order, notes each step fired in the memory, and says how many there were.
+/// `done` has how often each step was done before. Refused as a resume is, with board and memory as they were.
 pub fn fire_tally<N: Net, B: Board>(
     net: &N,
     board: &mut B,

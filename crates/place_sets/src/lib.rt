@@ -39,8 +39,6 @@ impl PlaceSet {
         requires { F.IsAlwaysCallable test }
         ensures { (b : ℕ → Bool) → ((p : ℕ) (r : Bool) → p < end → F.post test p r → r ≡ b p) → (p : ℕ) → has result p ≡ (nat_lt p end && (nat_lt p 64 && b p)) }
     {
-        // A `fold` after a `filter` is proved by what the closure gives each turn, which stayed open for sets where it
-        // was tried (the leads of a place).
         let mut places = PlaceSet::empty();
         // Where the end is cut off first, `with` need not compare each place with it.
         for place in 0..end.min(PLACES) {

@@ -9,7 +9,7 @@ use crate::search::reached_from;
 use nets::net::Net;
 use place_sets::PlaceSet;
 
-/// The places that are cut off: a step of the tally takes or yields there, and they are not reached from where blocks lie.
+/// The places that the tally uses and no block can come to.
 pub fn cut_off_places<N: Net>(net: &N, counts: &[u32], tally: &[u16]) -> PlaceSet
     ensures { let M = (N.meaning net.now).net in (p : ℕ) → has result p ≡ (nat_lt p M.places && is_cut_off M (at counts.now) (at tally.now) p) }
 {
@@ -21,7 +21,6 @@ pub fn cut_off_places<N: Net>(net: &N, counts: &[u32], tally: &[u16]) -> PlaceSe
 fn used_by<N: Net>(net: &N, tally: &[u16]) -> PlaceSet
     ensures { (p : ℕ) → has result p ≡ in_subnet (N.meaning net.now).net (at tally.now) p }
 {
-    // `filter` and `fold` over the range were tried: what the sets add up to stayed open.
     let mut used = PlaceSet::empty();
     for step in 0..net.steps() {
         if let Some(place) = input_asked(net, tally, step) {

@@ -6,52 +6,52 @@ ghost use Rattle.std.specs.Prelude.{◌≡◌, Some};
 
 use std::fmt;
 
-/// Why a call was refused. A step number counts from 0, an arc number from 1.
+/// Why a call was refused; each variant begins with its number. Steps and places count from 0, arcs from 1.
 #[derive(Clone, Copy, PartialEq, Eq, Debug)]
 pub enum Refusal {
-    /// 1: too few bytes for a head, or not as many as the head says.
+    /// 1: the file ends within its head, or is longer or shorter than the sizes in its head make it.
     WrongLength,
-    /// 2: the number of places is not 1 to 64.
+    /// 2: a net of no place, or of 65 and more.
     PlacesOutOfRange,
-    /// 3: more than 128 steps, or more than 1,023 arcs.
+    /// 3: a net of 129 steps and more, or a chained file of 1,024 arcs and more.
     TooManyStepsOrArcs,
-    /// 4: this step's input is no place of the net, or its first arc is above the number of arcs.
+    /// 4: the step would take where the net has no place, or its yields begin at an arc that the file has not.
     StepUnfit(u16),
-    /// 5: this arc's place is outside the net, its weight is 0, or its next arc is not allowed.
+    /// 5: the arc leads to no place of the net, weighs nothing, or goes on, but to no later arc at a higher place.
     ArcUnfit(u16),
-    /// 6: this step yields nothing.
+    /// 6: the step takes its block and puts none down.
     StepWithoutYield(u16),
-    /// 7: a tally or target row has the wrong length, or the target's kind byte is unknown.
+    /// 7: the tally has not one number for each step, the target not one for each place, or its kind is not 0 or 1.
     RowsUnfit,
-    /// 8: the steps done and the steps asked for are more than 65,535.
+    /// 8: the sitting would have done more than 65,535 steps since it was new.
     DoneLimit,
-    /// 9: the order memory is shorter than the tally's total.
+    /// 9: the lent memory has not an entry for each step of the order.
     OrderMemoryShort,
-    /// 10: spare is less than the yields of the steps asked for.
+    /// 10: the board has no room for all blocks that would be put down; only a fire counts in the block that it takes.
     SpareShort,
-    /// 11: this is the least short place.
+    /// 11: the tally takes more blocks from the place than are there and come there; no place before it is short.
     Short(u8),
-    /// 12: this is the least cut-off place.
+    /// 12: the tally uses the place, and no block can get there; none is short, and none before it is cut off.
     CutOff(u8),
-    /// 13: this is the least missed place.
+    /// 13: the tally can be done, but leaves the place off the target, and none before it.
     Missed(u8),
     /// 14: the net has no step of this number.
     NoSuchStep,
-    /// 15: this place, the step's input, is empty.
+    /// 15: the step cannot be fired, as no block lies at the place from which it takes.
     InputEmpty(u8),
-    /// 16: the place is above 63.
+    /// 16: no board has a place of this number; they have 0 to 63.
     NoSuchPlace,
-    /// 17: a take at this place, which is empty.
+    /// 17: there is no block to take from the place.
     PlaceEmpty(u8),
-    /// 18: a put of more blocks than spare at this place.
+    /// 18: the blocks to be put at the place are more than the board has room for.
     PutAboveSpare(u8),
-    /// 19: a board's row has the wrong length, breaks the law, or has a slot byte above 64.
+    /// 19: no board can be as the row says: it is too short or too long, has too many blocks, or a slot of no place.
     BoardRowUnfit,
-    /// 20: a renaming row is no permutation of the 64 places.
+    /// 20: the row is no permutation of the places 0 to 63.
     NotARenaming,
-    /// 21: the list is full, or the findings memory holds fewer than 192.
+    /// 21: no entry of the list's memory is free; or a survey was lent memory that some survey might overfill.
     ListFull,
-    /// 22: the text memory is too short for the line.
+    /// 22: the line with its end does not fit into the lent text memory.
     TextMemoryShort,
 }
 

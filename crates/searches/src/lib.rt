@@ -10,7 +10,6 @@ pub fn least_below<F: Fn(u16) -> bool>(end: u16, test: F) -> Option<u16>
     ensures answer { (p : ℕ → Bool) → ((k : ℕ) (b : Bool) → k < end → F.post test k b → b ≡ p k) → result ≡ least p end }
     ensures below { IfSome result (λ k. k < end) }
 {
-    // `find` of the range was tried: that the test may be called, which holds below the end alone, stayed open.
     for number in 0..end {
         if test(number) {
             return Some(number);

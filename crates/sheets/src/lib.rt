@@ -21,9 +21,9 @@ use verdict::find_order;
 /// The longest line: `ok`, 4,096 steps of three digits, each after a space, and the line's end.
 pub const LONGEST_LINE: usize = 3 + 4 * ORDER_ENTRIES;
 
-/// Judges a sheet: writes its line from the front of the text memory, alters no more of it, and answers
-/// the line's length. Refused only where the memory is too short for the line; `LONGEST_LINE` bytes are enough for
-/// any.
+/// Judges a sheet of any bytes: puts the line of its verdict, line end included, at the start of `text`, and says how
+/// many bytes that is. Refused: `TextMemoryShort`, with `text` as it was, where the line is longer; none is longer
+/// than `LONGEST_LINE`.
 pub fn judge(sheet: &[u8], text: &mut [u8]) -> Result<usize, Refusal>
     ensures line { LineWritten (sheet_line sheet.now) text.old result text.new }
     ensures verdict { Judged sheet.now (sheet_line sheet.now) }

@@ -14,8 +14,6 @@ use std::marker::PhantomData;
 
 /// What a pile makes of lines, by how many layers it still takes; gives the board back, and the lines
 /// that are left.
-/// It stands in each of three programs: what they do with the lines between two layers differs, and a shared
-/// one would be no plainer.
 pub(crate) trait OnPile {
     fn run<'a, N: Net + Drop, B: Board + Drop>(
         table: &mut Table<'_>,

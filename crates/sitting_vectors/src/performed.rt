@@ -43,7 +43,6 @@ pub(crate) fn sit<'a, N: Net + Drop, B: Board + Drop>(
 
 /// The counts, the spare and the done row.
 fn digest_of<N: Net, B: Board>(sitting: &Sitting<N, B>) -> Digest {
-    // `board_vectors` begins its digests with these two lines too: `comparisons`, which both share, knows no boards
     let mut digest = Digest::of(&all_counts(sitting.board()));
     digest.add(sitting.board().spare());
     digest.add_all(sitting.done());
@@ -61,8 +60,6 @@ fn fire<N: Net, B: Board>(
     table.compare_state(line, Answer::from(done), digest_of(sitting))
 }
 
-// `survey` has the same lines: the memory, the call, and what is added to the digest and to the totals differ, so one
-// function for both would take a closure for each of them.
 fn resume<N: Net, B: Board>(
     table: &mut Table<'_>,
     line: &Line<'_>,

@@ -50,8 +50,7 @@ impl Totals {
         self.count_refusal(done.err())
     }
 
-    /// What a resume answered. `survey` has the same lines for two other fields: one function for both would take the
-    /// two fields, and be no shorter.
+    /// What a resume answered.
     pub(crate) fn resume(&mut self, done: Result<usize, Refusal>) -> Result<(), AllocError> {
         self.resumes.add(done.is_ok());
         self.longest_order = self.longest_order.max(done.unwrap_or(0));

@@ -1,4 +1,4 @@
-//! Sittings: one net, one board and one done row, with the calls fire, resume and survey.
+//! Sittings: what one person does with a net on a board, by single steps and by whole tallies.
 #![tactic(auto)]
 
 mod done_rows;

@@ -19,7 +19,8 @@ use tables::net_table::NetTable;
 use totals::asked::{done_total, yields_of};
 
 impl<N: Net, B: Board> Sitting<N, B> {
-    /// Does one step: fires it on the board and counts it in the done row.
+    /// Fires one step (transition) and counts it. Refused, with all as it was, for the first that is wrong:
+    /// `NoSuchStep`, `DoneLimit`, `InputEmpty`, `SpareShort`; the block that it takes makes room for its yields.
     pub fn fire(&mut self, step: u16) -> Result<(), Refusal>
         ensures net { self.new.net ≡ self.old.net }
         ensures answer { result ≡ fire_answer (N.meaning self.old.net).net (held_by B.Board self.old) step }
@@ -46,8 +47,10 @@ impl<N: Net, B: Board> Sitting<N, B> {
         Ok(())
     }
 
-    /// Does a whole tally: fires its first order on the board, writes that order from the front of the
-    /// order memory, and adds the tally to the done row. Answers the order's length.
+    /// Does a tally (Parikh vector): of the orders (firing sequences) that do it, fires the lexicographically least,
+    /// notes its steps in `order`, first to last, and says how many they are. Entries behind them stay as they were.
+    /// Refused, with all as it was, for the first that is wrong: `RowsUnfit`, `DoneLimit`, `OrderMemoryShort`,
+    /// `SpareShort`, `Short`, `CutOff`, `Missed`.
     pub fn resume(
         &mut self,
         tally: &[u16],
@@ -69,8 +72,10 @@ impl<N: Net, B: Board> Sitting<N, B> {
         Ok(length)
     }
 
-    /// Lists everything that stands in the way of a tally, from the front of the findings memory, and
-    /// answers how many findings there are.
+    /// Writes into `findings` each place that stands in the way of the tally, with each of its causes, and says how
+    /// many findings that makes: none where some order does the tally and ends as the target wants. What is short
+    /// comes first, what is missed last; entries behind them stay as they were. Refused, with all as it was, for the
+    /// first that is wrong: `RowsUnfit`, `DoneLimit`, `ListFull` where there is room for fewer than 192.
     pub fn survey(
         &self,
         tally: &[u16],

@@ -1,4 +1,4 @@
-//! What a sitting is: one net, one board and one done row.
+//! What a sitting keeps, and how one begins and ends.
 ghost use Rattle.std.specs.Prelude.{◌≡◌, ℕ, ◌≤◌, length};
 ghost use Rattle.theory.specs.Rows.{at};
 ghost use Rattle.theory.specs.Sums.{sum_to};
@@ -9,7 +9,8 @@ use nets::net::{MOST_STEPS, Net};
 /// How many counts the done row has, one for each step that a net may have.
 pub const DONE_COUNTS: usize = MOST_STEPS;
 
-/// A net, a board, and how often each step of the net was done on it.
+/// Work with one net on one board. It keeps them from its first call to its last, and counts the steps (transitions)
+/// that were fired: in all never more than 65,535.
 #[derive(Drop)]
 pub struct Sitting<N: Net, B: Board> {
     pub(crate) net: N,
@@ -21,7 +22,7 @@ pub struct Sitting<N: Net, B: Board> {
 }
 
 impl<N: Net, B: Board> Sitting<N, B> {
-    /// A new sitting, with a done row of zeros.
+    /// A sitting in which nothing was done yet; the board may hold anything.
     pub fn new(net: N, board: B) -> Sitting<N, B>
         ensures net { result.net ≡ net }
         ensures board { result.board ≡ board }
@@ -48,7 +49,7 @@ impl<N: Net, B: Board> Sitting<N, B> {
         &self.board
     }
 
-    /// How often each step was done.
+    /// The done row: how often each step was fired (the Parikh vector so far), 128 counts; 0 for steps past the net's.
     pub fn done(&self) -> &[u16]
         ensures { result.now ≡ self.now.done }
     {

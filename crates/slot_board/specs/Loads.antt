@@ -3,7 +3,7 @@ use Rattle.std.specs.Prelude.{◌≡◌, ℕ, ◌≤◌, List, length, Ok, Err, 
 use Rattle.refusals.specs.declared.Refusal.{Refusal}
 use Rattle.refusals.specs.declared.Refusal.TheVariants.{BoardRowUnfit}
 
--- bytes that can be slots: 4,096, and none above 64
+-- a byte for each slot, and each for an empty one (0) or for a place of the board (its number and 1)
 pub record SlotsFit (bytes : List ℕ) : Type 0 where
   pub long : length bytes ≡ 4096
   pub small : (k : ℕ) → slice_index bytes k ≤ 64

@@ -1,5 +1,5 @@
--- What slots say of the counts and of spare, and which slots take empties and put fills.
--- A slot holds 0 when it is empty, or the place of its block and 1.
+-- What slots say of the counts and of spare, and which of them change by a take and by a put.
+-- The number of a slot is 0 where it has no block, else one more than the place of its block.
 use Rattle.std.specs.Prelude.{ℕ, suc, ◌+◌, cond, ◌&&◌, List, [], ◌∷◌, Ok, Err, Result, ◌==◌, nat_lt, slice_set}
 use Rattle.refusals.specs.declared.Refusal.{Refusal}
 
@@ -8,7 +8,7 @@ unfoldable pub occurs : ℕ → List ℕ → ℕ
 occurs held [] = 0
 occurs held (slot ∷ slots) = cond (slot == held) 1 0 + occurs held slots
 
--- the blocks of a place are the slots that hold it
+-- a place has a block in each slot that bears its number and 1
 abbrev pub counts_of : List ℕ → ℕ → ℕ
 counts_of slots place = occurs (place + 1) slots
 
@@ -24,12 +24,12 @@ filled held n [] = []
 filled held n (slot ∷ slots) =
     cond (slot == 0 && nat_lt (occurs 0 slots) n) held slot ∷ filled held n slots
 
--- an accepted take empties the place's lowest slot
+-- a take clears the first slot with a block of the place
 abbrev pub slots_after_take : {X : Type 0} → ℕ → Result X Refusal → List ℕ → List ℕ
 slots_after_take place (Ok x) slots = slice_set slots (lowest_with (place + 1) slots) 0
 slots_after_take place (Err e) slots = slots
 
--- an accepted put of n fills n slots with the place, from the highest down
+-- a put uses the n empty slots nearest to the end
 abbrev pub slots_after_put : {X : Type 0} → ℕ → ℕ → Result X Refusal → List ℕ → List ℕ
 slots_after_put place n (Ok x) slots = filled (place + 1) n slots
 slots_after_put place n (Err e) slots = slots

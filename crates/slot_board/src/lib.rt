@@ -1,4 +1,4 @@
-//! The slot board: 4,096 slots, each empty or with one block of a place.
+//! The slot board: blocks with an address, as in a heap, so that it shows where a sitting left each of them.
 #![tactic(auto)]
 
 ghost use Rattle.std.specs.Prelude.{◌≡◌, ℕ, ◌+◌, ◌≤◌, length, replicate, MatchBool, MatchOption, MatchResult, OnOk, slice_index};
@@ -22,7 +22,8 @@ const EMPTY: u8 = 0;
 // the most that a slot holds: the highest place and 1
 const HIGHEST: u8 = LAST_PLACE + 1;
 
-/// A board that keeps each block in a slot: 0 for an empty slot, or the place of its block and 1.
+/// A board of 4,096 slots, a byte each, with room for one block in each: an empty slot has the byte 0, one with a
+/// block of place p has p + 1. A take clears the place's first slot, a put uses the last slots that are empty.
 // clauses name the fields: under an `impl Model` the laws of a board stay open, which rest on the ghost fields
 #[derive(Drop)]
 pub struct SlotBoard {
@@ -34,7 +35,7 @@ pub struct SlotBoard {
 }
 
 impl SlotBoard {
-    /// A board with every slot empty.
+    /// A board without a block, so with spare 4,096.
     pub fn new() -> SlotBoard
         ensures slots { result.slots ≡ replicate 4096 0 }
     {
@@ -45,8 +46,8 @@ impl SlotBoard {
         }
     }
 
-    /// Takes over the bytes as its slots; refused, and nothing changed, unless they are 4,096 and
-    /// none is above 64.
+    /// Sets all slots by their bytes, slot 0 first. Refused: `BoardRowUnfit`, with the board as it was, where there
+    /// are fewer or more than 4,096 bytes, or one stands for no place.
     pub fn load(&mut self, bytes: &[u8]) -> Result<(), Refusal>
         ensures answer { LoadSays bytes.now self.old.slots result self.new.slots }
     {
@@ -59,7 +60,7 @@ impl SlotBoard {
         Ok(())
     }
 
-    /// The slots, from the lowest number up.
+    /// The 4,096 bytes, slot 0 first.
     pub fn slots(&self) -> &[u8]
         ensures answer { result.now ≡ self.now.slots }
     {
@@ -88,7 +89,7 @@ fn lowest(slots: &[u8], held: u8) -> Option<usize>
     slots.iter().position(|slot| *slot == held)
 }
 
-// empties the place's lowest slot; refused, and nothing changed, where it has none
+// clears the first slot with a block of the place; refused, with the slots as they were, where there is none
 fn empty_lowest(slots: &mut [u8], place: u8) -> Result<(), Refusal>
     requires fit { SlotsFit slots.old }
     requires inside { place ≤ 63 }
@@ -101,7 +102,7 @@ fn empty_lowest(slots: &mut [u8], place: u8) -> Result<(), Refusal>
     Ok(())
 }
 
-// puts n blocks of the place into empty slots, from the highest down
+// gives n blocks of the place to the empty slots nearest to the end
 fn fill_highest(slots: &mut [u8], place: u8, n: u32)
     requires fit { SlotsFit slots.old }
     requires inside { place ≤ 63 }

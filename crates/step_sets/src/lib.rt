@@ -6,7 +6,7 @@ ghost use Rattle.place_sets.specs.Flags.{has, first_place, Empty, IsFirst};
 
 use std::marker::Model;
 
-// Beside `PlaceSet`, and read by the same `has`: one generic over its word would need a trait of the words' operations.
+// Clauses read its word by the same `has` as that of a `PlaceSet`.
 /// A set of steps 0 to 127.
 #[derive(Clone, Copy)]
 pub struct StepSet {

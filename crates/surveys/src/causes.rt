@@ -13,8 +13,6 @@ use nets::net::Net;
 use place_sets::PlaceSet;
 use totals::finals::Asked;
 
-// One function for each cause: a shared one would be no plainer, as it would be handed a test and a number.
-
 /// The finding at a place that is short.
 pub(crate) fn short_at<N: Net>(asked: &Asked<'_, N>, place: u8) -> Option<Finding>
     ensures { result ≡ finding_at (is_short (N.meaning asked.now.net.now).net (at asked.now.counts.now) (at asked.now.tally.now)) (short_finding (N.meaning asked.now.net.now).net (at asked.now.counts.now) (at asked.now.tally.now)) place }

@@ -19,9 +19,9 @@ use refusals::Refusal;
 use totals::finals::Asked;
 use totals::flow::Flow;
 
-/// Lists every short place, then every cut-off place, then every missed place, each by rising place,
-/// from the front of the memory, and answers how many. `done` has the steps done before, which
-/// count against their limit.
+/// Writes down all that stands in the way of the tally on this board, one cause after the other and of each the
+/// lowest place first, and says how many findings that makes. `done` has how often each step was done before.
+/// Refused: `RowsUnfit`, else `DoneLimit`, else `ListFull` for memory of fewer than `FINDINGS_NEEDED`.
 pub fn list_findings<'a, N: Net, B: Board>(
     net: &'a N,
     board: &B,

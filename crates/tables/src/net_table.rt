@@ -17,9 +17,8 @@ pub struct NetTable {
     inputs: [u8; MOST_STEPS],
     yields: [[u8; MOST_PLACES]; MOST_STEPS],
     yield_places: [PlaceSet; MOST_STEPS],
-    // Six fields and not one with the whole law: that names a place where a step yields, so it may hold
-    // in several ways, and a ghost field in one way only. Two more: the row of a step holds its yields outside the
-    // places too, and the set of a step is the places of its row.
+    // The law of nets, said of the rows up to the last step. Such a row yields nothing past the places, and the set
+    // of a step is the places of its row.
     ghost some_place: { 1 ≤ places },
     ghost few_places: { places ≤ 64 },
     ghost few_steps: { steps ≤ 128 },
@@ -31,7 +30,7 @@ pub struct NetTable {
 }
 
 impl NetTable {
-    /// A table of a net of one place and no steps.
+    /// The table of the smallest net, in which nothing can be fired.
     pub fn new() -> NetTable
         ensures places { result.places ≡ 1 }
         ensures steps { result.steps ≡ 0 }

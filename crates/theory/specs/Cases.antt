@@ -10,7 +10,7 @@ use Rattle.theory.specs.Tests.{least, is_short, in_subnet, is_reached, is_cut_of
 
 -- HOW A CASE IS JUDGED
 
--- what the rule says of a tally: the least short place, else the least cut-off place, else the first order
+-- what the theorems say of a tally: its first order, or the place that stands in the way
 pub data Verdict : Type 0 where
   short_at : ℕ → Verdict
   cut_off_at : ℕ → Verdict
@@ -34,7 +34,7 @@ abbrev pub first_there : {A : Type 0} → (ℕ → Option A) → ℕ → Option 
 first_there f zero = None
 first_there f (suc n) = option_or (first_there f n) (f n)
 
--- trying every order of n steps, smaller step numbers first: the first that can be fired, by the firing rule alone
+-- a search of all orders of n steps in lexicographic order, with nothing but the firing rule
 abbrev pub try_all : NetMeaning → Marking → Tally → ℕ → Option (List ℕ)
 try_all N m x zero = Some []
 try_all N m x (suc n) =
@@ -43,7 +43,7 @@ try_all N m x (suc n) =
 abbrev pub by_trying : NetMeaning → Marking → Tally → Option (List ℕ)
 by_trying N m x = try_all N m x (steps_asked N x)
 
--- a wrong way: firing the least step that can be fired, until none can
+-- a shortcut that is wrong: always the least enabled step, without a look at what is left
 abbrev pub fire_any : NetMeaning → Marking → Tally → ℕ → List ℕ
 fire_any N m x zero = []
 fire_any N m x (suc n) = followed (least (ready N m x) N.steps) (λ t. fire_any N (fired N m t) (less x t) n)
@@ -51,7 +51,7 @@ fire_any N m x (suc n) = followed (least (ready N m x) N.steps) (λ t. fire_any 
 abbrev pub by_firing_any : NetMeaning → Marking → Tally → List ℕ
 by_firing_any N m x = fire_any N m x (steps_asked N x)
 
--- another: looking for cut-off places along every step of the net instead of the tally's
+-- another: paths may use any step of the net, also one that the tally does not ask for
 abbrev pub by_the_whole_net : NetMeaning → Marking → Tally → Option ℕ
 by_the_whole_net N m x = least (λ p. in_subnet N x p && not (is_reached N m (λ t. 1) p)) N.places
 
@@ -94,15 +94,15 @@ abbrev pub net_of : ℕ → ℕ → List ℕ → List (List ℕ) → NetMeaning
 net_of places steps inputs yields =
     record { places = places; steps = steps; input = at inputs; yields = λ t. at (slice_index_or yields t []) }
 
--- step 0 goes from place 0 to 2, step 1 from 0 to 1, step 2 from 1 back to 0
+-- from place 0 a block leaves for place 2 by step 0, or makes a detour over place 1 by steps 1 and 2
 abbrev pub detour : NetMeaning
 detour = net_of 3 3 (0 ∷ 0 ∷ 1 ∷ []) ((0 ∷ 0 ∷ 1 ∷ []) ∷ (0 ∷ 1 ∷ 0 ∷ []) ∷ (1 ∷ 0 ∷ 0 ∷ []) ∷ [])
 
--- one place; step 0 yields 2 at its own input
+-- one place and one step, which puts back two blocks for each that it takes
 abbrev pub doubler : NetMeaning
 doubler = net_of 1 1 (0 ∷ []) ((2 ∷ []) ∷ [])
 
--- steps 0 and 1 go from 0 to 1, steps 2 and 3 from 1 to 2, steps 4 and 5 from 2 to 0
+-- a ring of three places, with two steps that do the same from each place to the next
 abbrev pub lock : NetMeaning
 lock =
     net_of 3 6 (0 ∷ 0 ∷ 1 ∷ 1 ∷ 2 ∷ 2 ∷ [])

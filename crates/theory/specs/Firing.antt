@@ -11,11 +11,11 @@ Marking = ℕ → ℕ
 abbrev pub one_at : ℕ → ℕ → ℕ
 one_at a b = cond (a == b) 1 0
 
--- the marking after the step t: one block less at its input place, then its yields added
+-- firing the transition t: one token goes from its input place, and after that the tokens that it yields arrive
 abbrev pub fired : NetMeaning → Marking → ℕ → Marking
 fired N m t p = (m p - one_at (N.input t) p) + N.yields t p
 
--- the order (firing sequence) can be fired: each step is the net's and finds a block at its input place, in turn
+-- the order (firing sequence) is enabled at the marking: whenever a step's turn comes, its input place is marked
 abbrev pub CanFire : NetMeaning → Marking → List ℕ → Type 0
 CanFire N m [] = Unit {0}
 CanFire N m (t ∷ ts) = (t < N.steps) × (0 < m (N.input t)) × CanFire N (fired N m t) ts
@@ -25,7 +25,7 @@ abbrev pub after : NetMeaning → Marking → List ℕ → Marking
 after N m [] = m
 after N m (t ∷ ts) = after N (fired N m t) ts
 
--- an order's counts: how often each step is in it (its Parikh vector)
+-- the Parikh vector of an order: the number of times that a step stands in it
 abbrev pub times : List ℕ → ℕ → ℕ
 times [] t = 0
 times (u ∷ us) t = one_at u t + times us t

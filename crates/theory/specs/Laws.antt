@@ -8,19 +8,19 @@ use Rattle.theory.specs.Tests.{least, is_short, in_subnet, is_reached, is_cut_of
 
 -- WHICH TALLIES CAN BE DONE
 
--- a tally can be done in some order exactly if no place is short and none is cut off
+-- the two causes are the only ones: a Parikh vector is realizable just where it leaves no place short or cut off
 abbrev pub DoneExactlyIf : Type 0
 DoneExactlyIf =
     (N : NetMeaning) → InputsInside N → (m : Marking) (x : Tally) →
     Realizable N m x ↔ (NoPlaceShort N m x × NoPlaceCutOff N m x)
 
--- every order that does the tally leads to the same marking: the final numbers
+-- all orders of one tally lead to one marking, that of the marking equation
 abbrev pub EndsAtFinalNumbers : Type 0
 EndsAtFinalNumbers =
     (N : NetMeaning) (m : Marking) (x : Tally) (order : List ℕ) → Realizes N m x order →
     (p : ℕ) → pos (after N m order p) ≡ final_number N m x p
 
--- a place is short exactly if its final number is below zero
+-- short, said by the marking equation: what it gives is negative
 abbrev pub ShortBelowZero : Type 0
 ShortBelowZero =
     (N : NetMeaning) (m : Marking) (x : Tally) (p : ℕ) → Short N m x p ↔ (final_number N m x p <ℤ pos 0)
@@ -33,7 +33,7 @@ SafeStepExists =
     (N : NetMeaning) → InputsInside N → (m : Marking) (x : Tally) → NoPlaceShort N m x → NoPlaceCutOff N m x →
     (t : ℕ) → t < N.steps → 0 < x t → (s : ℕ) × Safe N m x s
 
--- choosing the least safe step each time gives the first order
+-- an order in which each step is the least safe one, when its turn comes, is the first
 abbrev pub LeastSafeIsFirst : Type 0
 LeastSafeIsFirst =
     (N : NetMeaning) (m : Marking) (x : Tally) (order : List ℕ) → LeastSafeEachTime N m x order → First N m x order
@@ -82,7 +82,7 @@ SafeByItsInput =
     Safe N m x t ↔ (Reached N (fired N m t) (less x t) (N.input t)
     ⊎ ((u : ℕ) → u < N.steps → 0 < less x t u → N.input u ≢ N.input t))
 
--- reached places that include the marked ones and out of which no step of the tally leads are all reached places
+-- a set of reached places with all marked ones in it, which no step of the tally leads out of: it lacks none
 pub record ClosedSet (N : NetMeaning) (m : Marking) (x : Tally) (set : ℕ → Bool) : Type 0 where
   pub has_marked : (p : ℕ) → p < N.places → 0 < m p → set p ≡ true
   pub has_reached_only : (p : ℕ) → p < N.places → set p ≡ true → Reached N m x p

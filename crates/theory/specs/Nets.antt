@@ -1,9 +1,9 @@
 -- What a net means, and the law of every net.
 use Rattle.std.specs.Prelude.{◌≡◌, ℕ, ◌<◌, ◌≤◌}
 
--- A net as a reader of its four answers knows it: how many places and how many steps (transitions)
--- it has, at which place each step takes its one block (token), and how many blocks a step puts
--- down at a place. Places and steps are numbered from 0.
+-- All that can be known of a net by asking: how many places and steps (transitions) it has, numbered from 0;
+-- from which place a step, when it is fired, takes its one block (token); and how many blocks it puts down at
+-- each place (the weights of its outgoing arcs).
 pub record NetMeaning : Type 0 where
   pub places : ℕ
   pub steps : ℕ
@@ -14,8 +14,8 @@ pub record NetMeaning : Type 0 where
 abbrev pub InputsInside : NetMeaning → Type 0
 InputsInside N = (t : ℕ) → t < N.steps → N.input t < N.places
 
--- the limits that every net keeps to; outside the net all numbers are 0, so that nets with the same
--- answers have the same meaning
+-- the limits of every net; what it says of places and steps that it has not is fixed at 0, so that nets with
+-- the same answers have the same meaning
 pub record NetLaw (N : NetMeaning) : Type 0 where
   pub some_place : 1 ≤ N.places
   pub few_places : N.places ≤ 64

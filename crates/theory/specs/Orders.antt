@@ -4,13 +4,13 @@ use Rattle.theory.specs.Nets.{NetMeaning}
 use Rattle.theory.specs.Firing.{Marking, one_at, fired}
 use Rattle.theory.specs.Tallies.{Tally, Realizes, Realizable}
 
--- one order is earlier than another: where the two first differ it has the smaller step number (lexicographic)
+-- the lexicographic order on firing sequences: at the first position that tells two apart, the lower step is earlier
 abbrev pub Earlier : List ℕ → List ℕ → Type 0
 Earlier [] us = ⊥
 Earlier (t ∷ ts) [] = ⊥
 Earlier (t ∷ ts) (u ∷ us) = (t < u) ⊎ ((t ≡ u) × Earlier ts us)
 
--- the first order: it does the tally, and every other order that does comes later
+-- the first order: the lexicographically least among the firing sequences of the tally
 pub record First (N : NetMeaning) (m : Marking) (x : Tally) (order : List ℕ) : Type 0 where
   pub realizes : Realizes N m x order
   pub before_others : (other : List ℕ) → Realizes N m x other → (order ≡ other) ⊎ Earlier order other
@@ -19,7 +19,7 @@ pub record First (N : NetMeaning) (m : Marking) (x : Tally) (order : List ℕ) :
 abbrev pub less : Tally → ℕ → Tally
 less x t u = x u - one_at t u
 
--- t is safe: it is left in the tally, can be fired now, and the rest of the tally can be done after it
+-- t is safe: the tally asks for it, it can be fired at once, and some order still does all that is then left
 abbrev pub Safe : NetMeaning → Marking → Tally → ℕ → Type 0
 Safe N m x t = (t < N.steps) × (0 < x t) × (0 < m (N.input t)) × Realizable N (fired N m t) (less x t)
 

@@ -1,10 +1,10 @@
--- Tallies: what a tally asks of each place, and the orders that do it.
+-- Tallies (Parikh vectors): what they ask of each place, and which orders do them.
 use Rattle.std.specs.Prelude.{◌≡◌, ℕ, ◌+◌, ◌*◌, ◌<◌, ◌⊎◌, List, ℤ, pos, ◌-ℤ◌}
 use Rattle.theory.specs.Sums.{sum_to}
 use Rattle.theory.specs.Nets.{NetMeaning}
 use Rattle.theory.specs.Firing.{Marking, one_at, CanFire, times}
 
--- a tally: how often each step is to be done (a Parikh vector)
+-- a tally says of each step how often it is to be fired, and nothing about the order (a Parikh vector)
 abbrev pub Tally : Type 0
 Tally = ℕ → ℕ
 
@@ -12,7 +12,7 @@ Tally = ℕ → ℕ
 abbrev pub steps_asked : NetMeaning → Tally → ℕ
 steps_asked N x = sum_to x N.steps
 
--- the order does the tally: it can be fired, and its counts are the tally's (the Parikh vector is realized)
+-- the order does the tally (realizes the Parikh vector): it can be fired, and has each step as often as is asked
 abbrev pub Realizes : NetMeaning → Marking → Tally → List ℕ → Type 0
 Realizes N m x order = CanFire N m order × ((t : ℕ) → t < N.steps → times order t ≡ x t)
 
@@ -28,24 +28,24 @@ spent N x p = sum_to (λ t. x t * one_at (N.input t) p) N.steps
 abbrev pub gained : NetMeaning → Tally → ℕ → ℕ
 gained N x p = sum_to (λ t. x t * N.yields t p) N.steps
 
--- the final number of a place: its blocks and what it gains, less what is spent (the marking equation)
+-- the final number: what the marking equation gives for p, from the marking, what the tally brings and what it takes
 abbrev pub final_number : NetMeaning → Marking → Tally → ℕ → ℤ
 final_number N m x p = pos (m p + gained N x p) -ℤ pos (spent N x p)
 
--- the place p is short: more is spent there than it has and gains, so that its final number is below zero
+-- the place p is short: all that lies there and all that the tally brings do not cover what the tally takes
 abbrev pub Short : NetMeaning → Marking → Tally → ℕ → Type 0
 Short N m x p = m p + gained N x p < spent N x p
 
--- p is a place of the tally's subnet: a step of the tally takes from p or yields there
+-- p is a place of the tally's subnet, the net of the steps that it asks for: one of them has an arc from p or to p
 abbrev pub InSubnet : NetMeaning → Tally → ℕ → Type 0
 InSubnet N x p = (t : ℕ) × (t < N.steps) × (0 < x t) × ((N.input t ≡ p) ⊎ (0 < N.yields t p))
 
--- p is reached: it holds a block, or a step of the tally from a place that is reached yields there
+-- p is reached: p is marked, or the tally's steps, as arrows from input to yields, lead there from a marked place
 pub data Reached (N : NetMeaning) (m : Marking) (x : Tally) : ℕ → Type 0 where
   marked : {p : ℕ} → 0 < m p → Reached N m x p
   through : {p : ℕ} (t : ℕ) → t < N.steps → 0 < x t → Reached N m x (N.input t) → 0 < N.yields t p → Reached N m x p
 
--- p is cut off: it is a place of the subnet, and not reached
+-- p is cut off: steps of the tally use it, and no block can come there by them (it lies in an unmarked siphon)
 abbrev pub IsCutOff : NetMeaning → Marking → Tally → ℕ → Type 0
 IsCutOff N m x p = InSubnet N x p × (Reached N m x p → ⊥)
 

@@ -29,13 +29,13 @@ is_short N m x p = nat_lt (m p + gained N x p) (spent N x p)
 abbrev pub in_subnet : NetMeaning → Tally → ℕ → Bool
 in_subnet N x p = any_below (λ t. nat_lt 0 (x t) && (N.input t == p || nat_lt 0 (N.yields t p))) N.steps
 
--- p is reached in so many rounds; a round adds the places where steps of the tally from reached places yield
+-- there is a path to p from a marked place, of at most so many steps of the tally
 abbrev pub reach : NetMeaning → Marking → Tally → ℕ → ℕ → Bool
 reach N m x zero p = nat_lt 0 (m p)
 reach N m x (suc k) p =
     reach N m x k p || any_below (λ t. nat_lt 0 (x t) && (nat_lt 0 (N.yields t p) && reach N m x k (N.input t))) N.steps
 
--- p is reached: as many rounds as there are places suffice
+-- p is reached: no path need be tried that has more steps than the net has places
 abbrev pub is_reached : NetMeaning → Marking → Tally → ℕ → Bool
 is_reached N m x p = reach N m x N.places p
 
@@ -65,7 +65,7 @@ abbrev pub followed : Option ℕ → (ℕ → List ℕ) → List ℕ
 followed None rest = []
 followed (Some t) rest = t ∷ rest t
 
--- up to n positions of the first order: at each the least step after which the rest can still be done
+-- the next n steps of the first order, or as many as are left: each is the least safe one
 abbrev pub first_steps : NetMeaning → Marking → Tally → ℕ → List ℕ
 first_steps N m x zero = []
 first_steps N m x (suc n) = followed (least (safe N m x) N.steps) (λ t. first_steps N (fired N m t) (less x t) n)

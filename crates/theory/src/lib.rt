@@ -14,15 +14,16 @@ ghost use Rattle.theory.specs.Laws.{ShortDecided, SubnetDecided, ReachedDecided,
 ghost use Rattle.theory.specs.Laws.{CanFireAppended, AfterAppended, TimesAppended, RealizesAppended, FinalNumbersAppended, FrontIsFirst, RestIsFirst};
 ghost use Rattle.theory.specs.Laws.{AgreeingExchanged};
 
-/// A tally can be done in some order exactly if no place is short and none is cut off, and every
-/// such order ends at the final numbers.
+/// Which tallies (Parikh vectors) some order (firing sequence) does: those that leave no place short and
+/// cut none off. Whichever order it is, it ends at the final numbers.
 pub fn which_tallies_can_be_done()
     ensures exactly { DoneExactlyIf }
     ensures ends { EndsAtFinalNumbers }
     ensures short { ShortBelowZero }
 {}
 
-/// Taking the least safe step each time gives the first order, and there always is a safe step.
+/// The lexicographically least order of a tally that can be done is found without going back: there is a safe
+/// step as long as one is left, and the least safe one is right each time.
 pub fn which_order_is_the_first()
     ensures step { SafeStepExists }
     ensures first { LeastSafeIsFirst }
@@ -33,7 +34,7 @@ pub fn which_order_is_the_first()
     ensures ends { FirstOrderEnds }
 {}
 
-/// A step is safe by what happens at its input place alone, and any way to find the reached places will do.
+/// Whether a step is safe shows at its input place alone, and any way to find the reached places will do.
 pub fn how_a_safe_step_is_found()
     ensures finals { FiringKeepsFinalNumbers }
     ensures by_its_input { SafeByItsInput }

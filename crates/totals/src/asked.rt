@@ -41,7 +41,6 @@ pub fn yields_of<N: Net>(net: &N, step: u16) -> u32
 {
     let mut row = [0; MOST_PLACES];
     net.read_yields(step, &mut row);
-    // `map` and `sum` of the row were tried: that the sum fits, since each term is a byte, stayed open.
     let mut sum = 0;
     for blocks in &row {
         sum += u32::from(*blocks);

@@ -88,8 +88,8 @@ impl<'a, N: Net> Asked<'a, N> {
         self.has_and_gains(place) as i64 - i64::from(self.spent(place))
     }
 
-    /// Whether the final number of the place differs from an exact target, or lies below an
-    /// at-least target.
+    /// Whether the tally would leave other than the wanted blocks at the place: more or fewer for an exact target,
+    /// fewer for one that is to be covered.
     pub fn is_missed(&self, place: u8) -> bool
         ensures { result ≡ is_missed (N.meaning self.now.net.now).net (at self.now.counts.now) (at self.now.tally.now) (target_with self.now.target.now self.now.kind) place }
     {
@@ -101,7 +101,7 @@ impl<'a, N: Net> Asked<'a, N> {
         }
     }
 
-    /// The final number of the place less the target.
+    /// By how many blocks the tally overshoots the target at the place; below 0 where it falls behind.
     pub fn missed_by(&self, place: u8) -> i64
         ensures { result ≡ final_number (N.meaning self.now.net.now).net (at self.now.counts.now) (at self.now.tally.now) place -ℤ pos (at self.now.target.now place) }
     {

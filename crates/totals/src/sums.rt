@@ -8,7 +8,6 @@ pub fn sum_below<F: Fn(u16) -> u32>(end: u16, term: F) -> u64
     ensures answer { (f : ℕ → ℕ) → ((k r : ℕ) → k < end → F.post term k r → r ≡ f k) → result ≡ sum_to f end }
     ensures bound { result < 2 ^ 48 }
 {
-    // `map` and `sum` of the range were tried: that the closure may be called, which holds below the end alone, stayed open.
     let mut sum = 0u64;
     for number in 0..end {
         sum += u64::from(term(number));
