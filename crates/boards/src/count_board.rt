@@ -21,10 +21,12 @@ pub struct CountBoard {
 }
 
 impl CountBoard {
+    ghost use Rattle.boards.specs.Shown.{count_row, spare_of};
+
     /// A board with no block and no spare.
     pub fn new() -> CountBoard
-        ensures counts { result.counts ≡ replicate 64 0 }
-        ensures spare { result.spare ≡ 0 }
+        ensures counts { count_row result ≡ replicate 64 0 }
+        ensures spare { spare_of result ≡ 0 }
     {
         CountBoard {
             counts: [0; PLACES],
@@ -35,7 +37,8 @@ impl CountBoard {
     /// Takes over the 64 counts of the row and the spare; refused, and nothing changed, where the
     /// row has another length or the board would break the law.
     pub fn load(&mut self, row: &[u32], spare: u32) -> Result<(), Refusal>
-        ensures answer { LoadSays row.now spare (at_place self.old.counts) self.old.spare result (at_place self.new.counts) self.new.spare }
+        ensures answer { LoadSays row.now spare (at_place (count_row self.old)) (spare_of self.old) result
+            (at_place (count_row self.new)) (spare_of self.new) }
     {
         let counts = <&[u32; PLACES]>::try_from(row).map_err(|_| Refusal::BoardRowUnfit)?;
         if !lawful(counts, spare) {
