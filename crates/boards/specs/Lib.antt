@@ -1,2 +1,3 @@
 pub mod Boards
 pub mod Rows
+pub mod Shown

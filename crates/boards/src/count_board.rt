@@ -21,10 +21,12 @@ pub struct CountBoard {
 }
 
 impl CountBoard {
+    ghost use Rattle.boards.specs.Shown.{count_row, spare_of};
+
     /// A board that holds nothing and has room for nothing, until a row is loaded.
     pub fn new() -> CountBoard
-        ensures counts { result.counts ≡ replicate 64 0 }
-        ensures spare { result.spare ≡ 0 }
+        ensures counts { count_row result ≡ replicate 64 0 }
+        ensures spare { spare_of result ≡ 0 }
     {
         CountBoard {
             counts: [0; PLACES],
@@ -35,7 +37,8 @@ impl CountBoard {
     /// Sets all counts, in blocks from place 0 on, and spare. Refused: `BoardRowUnfit`, with the board as it was,
     /// where the row has fewer or more than 64 numbers, or they and spare are more than `BOARD_LIMIT` together.
     pub fn load(&mut self, row: &[u32], spare: u32) -> Result<(), Refusal>
-        ensures answer { LoadSays row.now spare (at_place self.old.counts) self.old.spare result (at_place self.new.counts) self.new.spare }
+        ensures answer { LoadSays row.now spare (at_place (count_row self.old)) (spare_of self.old) result
+            (at_place (count_row self.new)) (spare_of self.new) }
     {
         let counts = <&[u32; PLACES]>::try_from(row).map_err(|_| Refusal::BoardRowUnfit)?;
         if !lawful(counts, spare) {

@@ -16,10 +16,12 @@ pub struct BoundedList<'a, T> {
 }
 
 impl<'a, T: Drop> BoundedList<'a, T> {
+    ghost use Rattle.lists.specs.Shown.{len_of, memory_of};
+
     /// An empty list over the memory, which stays as it is.
     pub fn new(memory: &'a mut [T]) -> BoundedList<'a, T>
-        ensures empty { result.len ≡ 0 }
-        ensures memory { result.memory.now ≡ memory.old }
+        ensures empty { len_of result ≡ 0 }
+        ensures memory { memory_of result ≡ memory.old }
         ensures lender { result.memory.ghost_name ≡ memory.entry.ghost_name }
     {
         BoundedList { memory, len: 0 }
@@ -27,14 +29,14 @@ impl<'a, T: Drop> BoundedList<'a, T> {
 
     /// How many elements were added.
     pub fn len(&self) -> usize
-        ensures { result ≡ self.now.len }
+        ensures { result ≡ len_of self.now }
     {
         self.len
     }
 
     /// How many more elements fit.
     pub fn room(&self) -> usize
-        ensures { result + self.now.len ≡ length self.now.memory.now }
+        ensures { result + len_of self.now ≡ length (memory_of self.now) }
     {
         let memory = &*self.memory;
         memory.len() - self.len
@@ -42,7 +44,7 @@ impl<'a, T: Drop> BoundedList<'a, T> {
 
     /// The element that was added after `i` others; none where there are no more than `i`.
     pub fn get(&self, i: usize) -> Option<&T>
-        ensures { Gets self.now.memory.now self.now.len i result }
+        ensures { Gets (memory_of self.now) (len_of self.now) i result }
     {
         self.memory[..self.len].get(i)
     }
@@ -51,7 +53,7 @@ impl<'a, T: Drop> BoundedList<'a, T> {
     // `lender` stands in each call that is lent the list: it is about two values of it, which no field can hold
     pub fn add(&mut self, x: T) -> Result<(), Refusal>
         ensures lender { self.new.memory.ghost_name ≡ self.old.memory.ghost_name }
-        ensures adds { Adds x self.old.memory.now self.old.len result self.new.memory.now self.new.len }
+        ensures adds { Adds x (memory_of self.old) (len_of self.old) result (memory_of self.new) (len_of self.new) }
     {
         if self.len == self.memory.len() {
             return Err(Refusal::ListFull);

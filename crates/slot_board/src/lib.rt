@@ -35,9 +35,11 @@ pub struct SlotBoard {
 }
 
 impl SlotBoard {
+    ghost use Rattle.slot_board.specs.Shown.{slot_bytes};
+
     /// A board without a block, so with spare 4,096.
     pub fn new() -> SlotBoard
-        ensures slots { result.slots ≡ replicate 4096 0 }
+        ensures slots { slot_bytes result ≡ replicate 4096 0 }
     {
         SlotBoard {
             slots: [EMPTY; SLOTS],
@@ -49,7 +51,7 @@ impl SlotBoard {
     /// Sets all slots by their bytes, slot 0 first. Refused: `BoardRowUnfit`, with the board as it was, where there
     /// are fewer or more than 4,096 bytes, or one stands for no place.
     pub fn load(&mut self, bytes: &[u8]) -> Result<(), Refusal>
-        ensures answer { LoadSays bytes.now self.old.slots result self.new.slots }
+        ensures answer { LoadSays bytes.now (slot_bytes self.old) result (slot_bytes self.new) }
     {
         let slots = <&[u8; SLOTS]>::try_from(bytes).map_err(|_| Refusal::BoardRowUnfit)?;
         if !fit(slots) {
@@ -62,7 +64,7 @@ impl SlotBoard {
 
     /// The 4,096 bytes, slot 0 first.
     pub fn slots(&self) -> &[u8]
-        ensures answer { result.now ≡ self.now.slots }
+        ensures answer { result.now ≡ slot_bytes self.now }
     {
         self.slots.as_slice()
     }
@@ -125,6 +127,8 @@ fn fill_highest(slots: &mut [u8], place: u8, n: u32)
 
 // `move_all` stays the trait's, which says no: which slots are filled depends on the sequence of takes and puts
 impl Board for SlotBoard {
+    ghost use Rattle.slot_board.specs.Shown.{slot_bytes};
+
     ghost counts = { λ b. counts_of b.slots };
 
     ghost spare = { λ b. occurs 0 b.slots };
@@ -145,9 +149,10 @@ impl Board for SlotBoard {
     }
 
     fn take(&mut self, place: u8) -> Result<(), Refusal>
-        ensures answer { TakeSays place (counts_of self.old.slots) (occurs 0 self.old.slots) result (counts_of self.new.slots) (occurs 0 self.new.slots) }
-        ensures slots { self.new.slots ≡ slots_after_take place result self.old.slots }
-        ensures lowest { OnOk result (FirstAt (place + 1) self.old.slots (lowest_with (place + 1) self.old.slots)) }
+        ensures answer { TakeSays place (counts_of (slot_bytes self.old)) (occurs 0 (slot_bytes self.old)) result
+            (counts_of (slot_bytes self.new)) (occurs 0 (slot_bytes self.new)) }
+        ensures slots { slot_bytes self.new ≡ slots_after_take place result (slot_bytes self.old) }
+        ensures lowest { OnOk result (FirstAt (place + 1) (slot_bytes self.old) (lowest_with (place + 1) (slot_bytes self.old))) }
     {
         index_of(place)?;
         empty_lowest(&mut self.slots, place)?;
@@ -156,9 +161,10 @@ impl Board for SlotBoard {
     }
 
     fn put(&mut self, place: u8, n: u32) -> Result<(), Refusal>
-        ensures answer { PutSays place n (counts_of self.old.slots) (occurs 0 self.old.slots) result (counts_of self.new.slots) (occurs 0 self.new.slots) }
-        ensures slots { self.new.slots ≡ slots_after_put place n result self.old.slots }
-        ensures highest { OnOk result (HighestFilled (place + 1) self.old.slots self.new.slots) }
+        ensures answer { PutSays place n (counts_of (slot_bytes self.old)) (occurs 0 (slot_bytes self.old)) result
+            (counts_of (slot_bytes self.new)) (occurs 0 (slot_bytes self.new)) }
+        ensures slots { slot_bytes self.new ≡ slots_after_put place n result (slot_bytes self.old) }
+        ensures highest { OnOk result (HighestFilled (place + 1) (slot_bytes self.old) (slot_bytes self.new)) }
     {
         index_of(place)?;
         let free = self
