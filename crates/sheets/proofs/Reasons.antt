@@ -1,5 +1,5 @@
 -- Why a sheet is refused.
-use Rattle.std.proofs.Common.{◌≡◌, ℕ, ◌+◌, ◌<◌, ◌≤◌, Bool, true, false, not, ltb, List, length, get_or, take, is_some, Some, None, Option, sym, refl, ap, inl, inr, subst, ⊎_elim, arith, length-take}
+use Rattle.std.proofs.Common.{◌≡◌, ℕ, ◌+◌, ◌<◌, ◌≤◌, true, false, not, ltb, List, take, is_some, Some, None, ap, inl, inr, subst, ⊎_elim, arith, length-take}
 use Rattle.std.proofs.lemmas.List.{get_or-take, get_or_past}
 use Rattle.std.proofs.lemmas.Bool.{cases_lt}
 use Rattle.std.proofs.lemmas.Bool.Decides.{nat_tests}
@@ -11,18 +11,17 @@ use Rattle.theory.proofs.Decided.{some_none}
 use Rattle.formats.specs.Checks.{fault}
 use Rattle.formats.specs.Complete.{AreBytes}
 use Rattle.formats.specs.Chained.{chained_end, head_refusal, chained_refusal}
-use Rattle.formats.specs.Reasons.{ChainedHeadFits, ChainedRowsFit, WhyHead, WhyRows}
+use Rattle.formats.specs.Reasons.{ChainedHeadFits}
 use Rattle.formats.proofs.ChainedLaw.{chained_lawful}
 use Rattle.formats.proofs.ChainedReasons.{chained_reasons}
 use Rattle.formats.proofs.NumberTests.{not_short, long_enough, is_below, below_is}
 use Rattle.formats.proofs.Faults.{fault_none, none_fault, fault_some, some_fault}
 use Rattle.answers.specs.Answers.{resume_refusal}
-use Rattle.answers.specs.Reasons.{WhyResume}
 use Rattle.answers.proofs.Options.{none_or, or_none, some_or, or_first, or_second}
 use Rattle.answers.proofs.Promised.{promise}
 use Rattle.sheets.specs.Parts.{sheet_end, net_file, net_of, start_of, tally_of, kind_of, target_in}
 use Rattle.sheets.specs.Verdicts.{order_entries, net_refusal, kind_unknown as no_kind, unlawful, form_refusal, sitting_of, sheet_refusal}
-use Rattle.sheets.specs.Reasons.{NetFits, judged_on, WellFormed, WhySheet, SheetFits, SheetReasons}
+use Rattle.sheets.specs.Reasons.{NetFits, judged_on, WellFormed, WhySheet, SheetReasons}
 use Rattle.sheets.specs.Reasons.WhySheet.{head_wrong, rows_wrong, kind_unknown, start_unlawful, not_resumed}
 use Rattle.sheets.proofs.Finding.{head_kept}
 
