@@ -19,3 +19,5 @@ pub record Judged (sheet line : List ℕ) : Type 0 where
       (order : List ℕ) × ((line ≡ ok_line order) × Does sheet order × ((other : List ℕ) → Does sheet other → (order ≡ other) ⊎ Earlier order other))
   -- `no` with the refusal for which there is a reason
   pub says_why : (e : Refusal) → WhySheet sheet e → line ≡ no_line e
+  -- one of the two it always says
+  pub says_either : SheetFits sheet ⊎ ((e : Refusal) × WhySheet sheet e)
