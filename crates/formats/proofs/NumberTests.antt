@@ -3,14 +3,14 @@ use Rattle.std.proofs.Common.{◌≡◌, ℕ, ◌<◌, ◌≤◌, Bool, true, fa
 use Rattle.std.proofs.lemmas.Bool.Decides.{nat_tests}
 use Rattle.formats.specs.Reasons.{NoPlaces, SomePlaces}
 
-pub not_short : (n k : ℕ) → ltb n k ≡ false → k ≤ n
-not_short n k e = grind (arith, nat_tests)
+pub not_below : (n k : ℕ) → ltb n k ≡ false → k ≤ n
+not_below n k e = grind (arith, nat_tests)
 
 pub is_below : (n k : ℕ) → ltb n k ≡ true → n < k
 is_below n k e = grind (arith, nat_tests)
 
-pub long_enough : (n k : ℕ) → k ≤ n → ltb n k ≡ false
-long_enough n k h = grind (arith, nat_tests)
+pub not_below_is : (n k : ℕ) → k ≤ n → ltb n k ≡ false
+not_below_is n k h = grind (arith, nat_tests)
 
 pub below_is : (n k : ℕ) → n < k → ltb n k ≡ true
 below_is n k h = grind (arith, nat_tests)

@@ -14,7 +14,7 @@ use Rattle.formats.specs.Chained.{chained_end, head_refusal, chained_refusal}
 use Rattle.formats.specs.Reasons.{ChainedHeadFits}
 use Rattle.formats.proofs.ChainedLaw.{chained_lawful}
 use Rattle.formats.proofs.ChainedReasons.{chained_reasons}
-use Rattle.formats.proofs.NumberTests.{not_short, long_enough, is_below, below_is}
+use Rattle.formats.proofs.NumberTests.{not_below, not_below_is, is_below, below_is}
 use Rattle.formats.proofs.Faults.{fault_none, none_fault, fault_some, some_fault}
 use Rattle.answers.specs.Answers.{resume_refusal}
 use Rattle.answers.proofs.Options.{none_or, or_none, some_or, or_first, or_second}
@@ -83,7 +83,7 @@ module _ (sheet : List ℕ) where
       record {
         net = net_none a.0;
         kind = known (kind_of sheet) (fault_none (no_kind sheet) RowsUnfit b.0);
-        start = not_short 2147483647 (sum_to (start_of sheet) 64 + 1000000) (fault_none (unlawful (start_of sheet)) BoardRowUnfit b.1);
+        start = not_below 2147483647 (sum_to (start_of sheet) 64 + 1000000) (fault_none (unlawful (start_of sheet)) BoardRowUnfit b.1);
       }
 
   none_form : WellFormed sheet → form_refusal sheet ≡ None
@@ -91,7 +91,7 @@ module _ (sheet : List ℕ) where
       or_none (net_refusal sheet) _ (none_net f.net)
       (or_none (fault (no_kind sheet) RowsUnfit) (fault (unlawful (start_of sheet)) BoardRowUnfit)
       (none_fault (no_kind sheet) RowsUnfit (is_known (kind_of sheet) f.kind))
-      (none_fault (unlawful (start_of sheet)) BoardRowUnfit (long_enough 2147483647 (sum_to (start_of sheet) 64 + 1000000) f.start)))
+      (none_fault (unlawful (start_of sheet)) BoardRowUnfit (not_below_is 2147483647 (sum_to (start_of sheet) 64 + 1000000) f.start)))
 
   lawful : AreBytes sheet → NetFits sheet → NetLaw (net_of sheet)
   lawful bytes f =
