@@ -38,8 +38,15 @@ bytes_row f zero h = bytes_none
 bytes_row f (suc n) h = bytes_append (row_of f n) (f n ∷ []) (bytes_row f n h) (bytes_one (f n) [] (h n) bytes_none)
 
 -- what is said of the numbers below T, and 0 from there on
-pub of_step : (t T x y : ℕ) → (t < T → x ≡ y) → (T ≤ t → y ≡ 0) → cond (ltb t T) x 0 ≡ y
-of_step t T x y h k = elim (cases_lt t T) [
+pub of_any_step : (t T x y : ℕ) → (t < T → x ≡ y) → (T ≤ t → y ≡ 0) → cond (ltb t T) x 0 ≡ y
+of_any_step t T x y h k = elim (cases_lt t T) [
   | inl l ↦ let e : x ≡ y = h l in grind (arith, nat_tests)
   | inr l ↦ let e : y ≡ 0 = k l in grind (arith, nat_tests)
 ]
+
+-- the number of a step of the net, and 0 for any other
+pub of_step : (t T y : ℕ) → t < T → cond (ltb t T) y 0 ≡ y
+of_step t T y h = grind (arith, nat_tests)
+
+pub of_no_step : (t T y : ℕ) → T ≤ t → cond (ltb t T) y 0 ≡ 0
+of_no_step t T y h = grind (arith, nat_tests)
