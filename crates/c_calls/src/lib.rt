@@ -5,7 +5,8 @@ ghost use Rattle.c_calls.specs.NewSittings.{NewResumed};
 ghost use Rattle.c_calls.specs.Said.{Says, LineSaid};
 ghost use Rattle.checks.specs.Held.{target_of};
 ghost use Rattle.refusals.specs.declared.Refusal.{Refusal};
-ghost use Rattle.sheets.specs.Verdicts.{sheet_line, Judged};
+ghost use Rattle.sheets.specs.Judged.{Judged};
+ghost use Rattle.sheets.specs.Verdicts.{sheet_line};
 ghost use Rattle.std.specs.Prelude.{ℕ, Result};
 
 mod answer;

@@ -2,7 +2,8 @@
 #![tactic(auto)]
 
 ghost use Rattle.std.specs.Prelude.{◌≡◌, IfOk, OnOk};
-ghost use Rattle.sheets.specs.Verdicts.{sheet_line, Judged};
+ghost use Rattle.sheets.specs.Judged.{Judged};
+ghost use Rattle.sheets.specs.Verdicts.{sheet_line};
 
 use sheets::{LONGEST_LINE, judge};
 use std::alloc::{AllocError, Global};

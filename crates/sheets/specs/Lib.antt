@@ -1,3 +1,6 @@
 pub mod Parts
 pub mod Verdicts
 pub mod Found
+pub mod Reasons
+pub mod Judged
+pub mod Cases

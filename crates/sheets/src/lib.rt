@@ -1,9 +1,12 @@
 //! Sheets: one sheet in, one line out.
 #![tactic(auto)]
 
+ghost use Rattle.sheets.specs.Cases.{CasesHold};
 ghost use Rattle.sheets.specs.Found.{Suffices};
 ghost use Rattle.lines.specs.Lines.{LineWritten};
-ghost use Rattle.sheets.specs.Verdicts.{longest_line, sheet_line, Judged};
+ghost use Rattle.sheets.specs.Reasons.{SheetReasons};
+ghost use Rattle.sheets.specs.Judged.{Judged};
+ghost use Rattle.sheets.specs.Verdicts.{longest_line, sheet_line};
 ghost use Rattle.std.specs.Prelude.{◌≤◌, length, IsOk};
 
 mod memory;
@@ -27,6 +30,7 @@ pub const LONGEST_LINE: usize = 3 + 4 * ORDER_ENTRIES;
 pub fn judge(sheet: &[u8], text: &mut [u8]) -> Result<usize, Refusal>
     ensures line { LineWritten (sheet_line sheet.now) text.old result text.new }
     ensures verdict { Judged sheet.now (sheet_line sheet.now) }
+    ensures reasons { SheetReasons sheet.now }
     ensures fits { longest_line ≤ length text.old → IsOk result }
 {
     if asks_few(&Sheet::new(sheet)) {
@@ -41,6 +45,7 @@ fn write_verdict(sheet: &[u8], order: &mut [u16], text: &mut [u8]) -> Result<usi
     requires { Suffices sheet.now (length order.old) }
     ensures line { LineWritten (sheet_line sheet.now) text.old result text.new }
     ensures verdict { Judged sheet.now (sheet_line sheet.now) }
+    ensures reasons { SheetReasons sheet.now }
     ensures fits { longest_line ≤ length text.old → IsOk result }
 {
     match find_order(&Sheet::new(sheet), order) {
@@ -48,3 +53,8 @@ fn write_verdict(sheet: &[u8], order: &mut [u16], text: &mut [u8]) -> Result<usi
         Err(refusal) => write_refusal(text, refusal),
     }
 }
+
+/// The worked sheets have the lines that were worked out by hand.
+pub fn worked_sheets()
+    ensures hold { CasesHold }
+{}
