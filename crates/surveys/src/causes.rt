@@ -30,7 +30,7 @@ pub(crate) fn short_at<N: Net>(asked: &Asked<'_, N>, place: u8) -> Option<Findin
 pub(crate) fn cut_off_at(cut_off: PlaceSet, place: u8) -> Option<Finding>
     ensures { result ≡ finding_at (has cut_off) cut_off_finding place }
 {
-    if !cut_off.has(place) {
+    if !cut_off.contains(place) {
         return None;
     }
     let cause = Cause::CutOff;
