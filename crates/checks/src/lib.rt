@@ -4,17 +4,16 @@
 ghost use Rattle.std.specs.Prelude.{◌≡◌, ℕ, Some, None, if◌then◌else◌};
 ghost use Rattle.answers.specs.Answers.{rows_fit, size_refusal};
 ghost use Rattle.answers.specs.Findings.{survey_refusal};
-ghost use Rattle.answers.specs.States.{yields_asked};
 ghost use Rattle.checks.specs.Checked.{Checked};
 ghost use Rattle.checks.specs.Held.{held, target_of};
 ghost use Rattle.refusals.specs.declared.Refusal.TheVariants.{RowsUnfit};
 ghost use Rattle.theory.specs.Firing.{Marking};
-ghost use Rattle.theory.specs.Rows.{at};
 
 use answers::Kind;
 use nets::net::{MOST_PLACES, Net};
 use refusals::Refusal;
 use totals::asked::{done_total, steps_asked};
+use totals::flow::Flow;
 
 /// The most steps that a sitting does while it lasts.
 pub const DONE_LIMIT: u64 = 65535;
@@ -45,21 +44,21 @@ pub fn check_rows<N: Net>(net: &N, tally: &[u16], target: Target<'_>) -> Result<
 }
 
 /// The kind of the target of a resume. Refused, for the first that is wrong: `RowsUnfit`, `DoneLimit`,
-/// `OrderMemoryShort`, `SpareShort`. The caller says how many blocks the tally yields, as it has the tally's flow.
+/// `OrderMemoryShort`, `SpareShort`.
 pub fn check_sizes<N: Net>(
-    net: &N,
+    flow: &Flow<'_, N>,
     spare: u32,
     done: &[u16],
-    tally: &[u16],
-    yielded: u64,
     target: Target<'_>,
     memory: usize,
 ) -> Result<Kind, Refusal>
-    requires { yielded ≡ yields_asked (N.meaning net.now).net (at tally.now) }
-    ensures { (counts : Marking) → Checked (size_refusal (N.meaning net.now).net (held counts spare done.now) tally.now (target_of target.entry.numbers.now target.entry.kind) memory) target.entry.kind result }
+    ensures { (counts : Marking) → let net = (N.meaning flow.now.net.now).net in
+        let before = held counts spare done.now in
+        let wanted = target_of target.entry.numbers.now target.entry.kind in
+        Checked (size_refusal net before flow.now.tally.now wanted memory) target.entry.kind result }
 {
-    let kind = check_rows(net, tally, target)?;
-    let asked = steps_asked(net, tally);
+    let kind = check_rows(flow.net, flow.tally, target)?;
+    let asked = steps_asked(flow.net, flow.tally);
     if done_total(done) + asked > DONE_LIMIT {
         return Err(Refusal::DoneLimit);
     }
@@ -67,7 +66,7 @@ pub fn check_sizes<N: Net>(
     if (memory as u64) < asked {
         return Err(Refusal::OrderMemoryShort);
     }
-    if u64::from(spare) < yielded {
+    if u64::from(spare) < flow.yields_asked() {
         return Err(Refusal::SpareShort);
     }
     Ok(kind)

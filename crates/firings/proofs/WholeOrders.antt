@@ -28,7 +28,7 @@ module _ (N : NetMeaning) (order : List ℕ) (m₀ : Marking) (spare₀ : ℕ) (
       (ap not (le-ltb (spare + 1) (yields_of N t) (omega (arith, h.room)))))
 
   -- and one less is left after it
-  pub left_after : (m' : Marking) (spare' : ℕ) → Moved N t true m spare m' spare' → LeftOf N order m₀ spare₀ rest m' spare'
+  pub left_after : (m' : Marking) (spare' : ℕ) → Moved N t m spare m' spare' → LeftOf N order m₀ spare₀ rest m' spare'
   left_after m' spare' moved = record {
     fires = subst (λ (z : Marking). CanFire N z rest) (sym moved.0) h.fires.2;
     room = omega (arith, h.room, moved.1);

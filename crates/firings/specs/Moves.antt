@@ -1,5 +1,5 @@
 -- The firing rule on a board: when a step can be fired there, and what that leaves.
-use Rattle.std.specs.Prelude.{◌≡◌, ℕ, ◌+◌, ◌-◌, Bool, true, false, not, ◌&&◌, nat_lt, List, length}
+use Rattle.std.specs.Prelude.{◌≡◌, ℕ, ◌+◌, ◌-◌, Bool, not, ◌&&◌, nat_lt, List, length}
 use Rattle.theory.specs.Nets.{NetMeaning}
 use Rattle.theory.specs.Firing.{Marking, fired, after}
 use Rattle.theory.specs.Tallies.{Tally, spent, gained}
@@ -12,10 +12,9 @@ abbrev pub can_move : NetMeaning → Marking → ℕ → ℕ → Bool
 can_move N m spare t =
     nat_lt t N.steps && (nat_lt 0 (m (N.input t)) && not (nat_lt (spare + 1) (yields_of N t)))
 
--- what is left on a board where the step was fired, or was not
-abbrev pub Moved : NetMeaning → ℕ → Bool → Marking → ℕ → Marking → ℕ → Type 0
-Moved N t true m spare m' spare' = (m' ≡ fired N m t) × (spare' ≡ (spare + 1) - yields_of N t)
-Moved N t false m spare m' spare' = (m' ≡ m) × (spare' ≡ spare)
+-- what is left on a board on which the step was fired
+abbrev pub Moved : NetMeaning → ℕ → Marking → ℕ → Marking → ℕ → Type 0
+Moved N t m spare m' spare' = (m' ≡ fired N m t) × (spare' ≡ (spare + 1) - yields_of N t)
 
 -- what is left on a board on which the order was fired
 abbrev pub MovedBy : NetMeaning → List ℕ → Marking → ℕ → Marking → ℕ → Type 0

@@ -9,8 +9,6 @@ pub mod whole_order;
 
 use boards::board::Board;
 use nets::net::Net;
-use place_sets::PlaceSet;
-use totals::asked::yields_of;
 
 /// Puts the yields of a step down, lowest place first, so that every board fills alike.
 fn put_yields<N: Net, B: Board>(net: &N, board: &mut B, step: u16)
@@ -18,11 +16,8 @@ fn put_yields<N: Net, B: Board>(net: &N, board: &mut B, step: u16)
     ensures counts { (p : ℕ) → B.counts board.new p ≡ B.counts board.old p + (N.meaning net.now).net.yields step p }
     ensures spare { B.spare board.new + yields_of (N.meaning net.now).net step ≡ B.spare board.old }
 {
-    let places = net.yield_places(step);
-    let mut done = PlaceSet::empty();
-    while let Some(place) = places.minus(done).first() {
+    for place in net.yield_places(step).iter() {
         let _ = board.put(place, u32::from(net.yield_at(step, place)));
-        done = done.with(place);
     }
 }
 
@@ -30,31 +25,10 @@ fn put_yields<N: Net, B: Board>(net: &N, board: &mut B, step: u16)
 /// call is refused.
 pub fn move_ready<N: Net, B: Board>(net: &N, board: &mut B, step: u16)
     requires { can_move (N.meaning net.now).net (B.counts board.old) (B.spare board.old) step ≡ true }
-    ensures { Moved (N.meaning net.now).net step true (B.counts board.old) (B.spare board.old) (B.counts board.new) (B.spare board.new) }
+    ensures { Moved (N.meaning net.now).net step (B.counts board.old) (B.spare board.old) (B.counts board.new) (B.spare board.new) }
 {
     if let Some(input) = net.input(step) {
         let _ = board.take(input);
     }
     put_yields(net, board, step);
-}
-
-// A bool and no `Result`: spare is asked for before the input, so that a slot board need not count, and the refusals
-// of a fire have another sequence; its callers know before that the step fires.
-/// Fires the step on the board, where it can be fired and spare holds its yields, and says whether
-/// it did; the board is as it was where it did not.
-pub fn move_blocks<N: Net, B: Board>(net: &N, board: &mut B, step: u16) -> bool
-    ensures answer { result ≡ can_move (N.meaning net.now).net (B.counts board.old) (B.spare board.old) step }
-    ensures after { Moved (N.meaning net.now).net step result (B.counts board.old) (B.spare board.old) (B.counts board.new) (B.spare board.new) }
-{
-    let Some(input) = net.input(step) else {
-        return false;
-    };
-    if board.spare() + 1 < yields_of(net, step) {
-        return false;
-    }
-    if board.take(input).is_err() {
-        return false;
-    }
-    put_yields(net, board, step);
-    true
 }

@@ -12,12 +12,15 @@ use totals::finals::Asked;
 
 /// Refused: `Short`, else `CutOff`, else `Missed`, each with the least place that it is true of.
 pub(crate) fn check_causes<N: Net>(asked: &Asked<'_, N>) -> Result<(), Refusal>
-    ensures { result ≡ answered (cause_refusal (N.meaning asked.now.net.now).net (at asked.now.counts.now) (at asked.now.tally.now) (target_with asked.now.target.now asked.now.kind)) tt }
+    ensures { let flow = asked.now.flow.now in let net = (N.meaning flow.net.now).net in
+        let target = target_with asked.now.target.now asked.now.kind in
+        result ≡ answered (cause_refusal net (at asked.now.counts.now) (at flow.tally.now) target) tt }
 {
     if let Some(place) = asked.least_short() {
         return Err(Refusal::Short(place));
     }
-    if let Some(place) = cut_off_places(asked.net, asked.counts, asked.tally).first() {
+    let flow = asked.flow;
+    if let Some(place) = cut_off_places(flow.net, asked.counts, flow.tally).first() {
         return Err(Refusal::CutOff(place));
     }
     if let Some(place) = asked.least_missed() {

@@ -33,18 +33,14 @@ pub fn fire_tally<N: Net, B: Board>(
     ensures { Fired (N.meaning net.now).net (held (B.counts board.old) (B.spare board.old) done.now) tally.now (target_of target.entry.numbers.now target.entry.kind) memory.old result (B.counts board.new) (B.spare board.new) memory.new }
 {
     let flow = Flow::of(net, tally);
-    let yielded = flow.yields_asked();
-    let kind = check_sizes(
-        net,
-        board.spare(),
-        done,
-        tally,
-        yielded,
-        target,
-        memory.len(),
-    )?;
+    let kind = check_sizes(&flow, board.spare(), done, target, memory.len())?;
     let counts = all_counts(board);
-    let asked = Asked::new(&flow, &counts, target.numbers, kind);
+    let asked = Asked {
+        flow: &flow,
+        counts: &counts,
+        target: target.numbers,
+        kind,
+    };
     check_causes(&asked)?;
     let length = write_first_order(net, &counts, tally, memory);
     move_order(&flow, board, &memory[..length]);

@@ -1,5 +1,5 @@
 -- A set of numbers as the binary digits of one number.
-use Rattle.std.specs.Prelude.{◌≡◌, ℕ, ◌/◌, ◌%◌, ◌^◌, ◌<◌, Bool, true, false, Option, ◌==◌}
+use Rattle.std.specs.Prelude.{◌≡◌, ℕ, ◌/◌, ◌%◌, ◌^◌, ◌<◌, Bool, true, false, not, ◌&&◌, Option, MatchOption, ◌==◌}
 use Rattle.theory.specs.Tests.{least}
 
 -- p is in the set: digit p of the word is 1
@@ -19,3 +19,8 @@ pub record IsFirst (n w p : ℕ) : Type 0 where
   pub inside : p < n
   pub in_it : has w p ≡ true
   pub least : (q : ℕ) → q < p → has w q ≡ false
+
+-- the least that is in the set and below n is taken out, or nothing is in it
+abbrev pub TakesFirst : (n w : ℕ) → Option ℕ → (rest : ℕ) → Type 0
+TakesFirst n w r rest =
+    MatchOption r (Empty w) (λ p. IsFirst n w p × ((q : ℕ) → has rest q ≡ (has w q && not (q == p))))

@@ -2,12 +2,13 @@
 #![tactic(auto)]
 
 ghost use Rattle.std.specs.Prelude.{◌≡◌, ℕ, ◌^◌, ◌<◌, ◌≤◌, Bool, true, false, not, ◌&&◌, ◌||◌, Decides, MatchOption, ◌==◌, nat_lt};
-ghost use Rattle.place_sets.specs.Flags.{has, first_place, Empty, IsFirst};
+ghost use Rattle.place_sets.specs.Flags.{has, first_place, Empty, IsFirst, TakesFirst};
+ghost use Rattle.std.specs.Iterator.{at_most};
 
 use std::marker::Model;
 
 /// A set of places 0 to 63.
-#[derive(Clone, Copy)]
+#[derive(Clone, Copy, PartialEq, Eq, Debug)]
 pub struct PlaceSet {
     word: u64,
 }
@@ -50,7 +51,7 @@ impl PlaceSet {
     }
 
     /// Whether the place is in the set; false above 63.
-    pub fn has(self, place: u8) -> bool
+    pub fn contains(self, place: u8) -> bool
         ensures { result ≡ has self place }
     {
         // The flag first, by the last bits of the place: it is one test, and where it is not set that is all.
@@ -75,7 +76,7 @@ impl PlaceSet {
     pub fn without(self, place: u8) -> PlaceSet
         ensures { (p : ℕ) → has result p ≡ (has self p && not (p == place)) }
     {
-        self.minus(PlaceSet::empty().with(place))
+        self.difference(PlaceSet::empty().with(place))
     }
 
     /// The set without its least place.
@@ -100,7 +101,7 @@ impl PlaceSet {
     }
 
     /// The places of this set that are not in the other.
-    pub fn minus(self, other: PlaceSet) -> PlaceSet
+    pub fn difference(self, other: PlaceSet) -> PlaceSet
         ensures answer { (p : ℕ) → has result p ≡ (has self p && not (has other p)) }
         ensures inside { (p : ℕ) → 64 ≤ p → has result p ≡ false }
     {
@@ -110,7 +111,7 @@ impl PlaceSet {
     }
 
     /// Whether some place is in both sets.
-    pub fn meets(self, other: PlaceSet) -> bool
+    pub fn intersects(self, other: PlaceSet) -> bool
         ensures { Decides result ((p : ℕ) × (has self p ≡ true) × (has other p ≡ true)) }
     {
         self.word & other.word != 0
@@ -130,5 +131,34 @@ impl PlaceSet {
     {
         // at most 63 where the word is not 0, so the cast keeps it
         (!self.is_empty()).then(|| self.word.trailing_zeros() as u8)
+    }
+
+    /// The places of the set, by rising place.
+    pub fn iter(self) -> PlaceIter
+        ensures { result.rest ≡ self }
+    {
+        PlaceIter { rest: self }
+    }
+}
+
+/// The places of a set, by rising place.
+#[derive(Drop)]
+pub struct PlaceIter {
+    /// The places that are still to come.
+    rest: PlaceSet,
+}
+
+impl Iterator for PlaceIter {
+    type Item = u8;
+
+    ghost next_gives = { λ s place t. TakesFirst 64 s.rest place t.rest };
+
+    // Each turn leaves a smaller word.
+    ghost remaining = { λ s. at_most s.rest };
+
+    fn next(&mut self) -> Option<u8> {
+        let place = self.rest.first()?;
+        self.rest = self.rest.without_first();
+        Some(place)
     }
 }

@@ -3,4 +3,3 @@ pub mod Searching
 pub mod Reaching
 pub mod Turned
 pub mod SetRows
-pub mod Passed

@@ -13,8 +13,8 @@ use place_sets::PlaceSet;
 pub fn cut_off_places<N: Net>(net: &N, counts: &[u32], tally: &[u16]) -> PlaceSet
     ensures { let M = (N.meaning net.now).net in (p : ℕ) → has result p ≡ (nat_lt p M.places && is_cut_off M (at counts.now) (at tally.now) p) }
 {
-    let marked = marked_in(counts, net.places());
-    used_by(net, tally).minus(reached_from(marked, &leads_of(net, tally)))
+    let marked = marked_in(net, counts);
+    used_by(net, tally).difference(reached_from(marked, &leads_of(net, tally)))
 }
 
 /// The places at which a step of the tally takes or yields.

@@ -1,5 +1,5 @@
 //! What the steps of a tally lead to at once.
-ghost use Rattle.std.specs.Prelude.{◌≡◌, ℕ, ◌<◌, ◌≤◌, ◌&&◌, nat_lt, MatchOption};
+ghost use Rattle.std.specs.Prelude.{◌≡◌, ℕ, ◌<◌, ◌&&◌, nat_lt, MatchOption};
 ghost use Rattle.place_sets.specs.Flags.{has};
 ghost use Rattle.reached.specs.Led.{has_at};
 ghost use Rattle.reached.specs.Leads.{leads_to};
@@ -32,13 +32,13 @@ pub fn leads_of<N: Net>(net: &N, tally: &[u16]) -> [PlaceSet; MOST_PLACES]
     leads
 }
 
-/// The places that hold a block.
-pub fn marked_in(counts: &[u32], places: u8) -> PlaceSet
-    requires { places ≤ 64 }
-    ensures { (p : ℕ) → has result p ≡ (nat_lt p places && nat_lt 0 (at counts.now p)) }
+/// The places of the net that hold a block.
+pub fn marked_in<N: Net>(net: &N, counts: &[u32]) -> PlaceSet
+    ensures { let M = (N.meaning net.now).net in
+        (p : ℕ) → has result p ≡ (nat_lt p M.places && nat_lt 0 (at counts.now p)) }
 {
     PlaceSet::passing(
-        places,
+        net.places(),
         |place| counts.get(usize::from(place)).copied().unwrap_or(0) > 0,
     )
 }

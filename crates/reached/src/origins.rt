@@ -47,7 +47,7 @@ impl Origins {
         ensures same { self.new.before ≡ self.old.before }
         ensures answer { (q : ℕ) → Decides (has result q) (OtherOrigin (has_at self.old.before) place q) }
     {
-        if !self.known.has(place) {
+        if !self.known.contains(place) {
             let first = PlaceSet::empty().with(place);
             let all = reached_from(first, &self.before);
             self.above[usize::from(place)] = all.without(place);
@@ -72,11 +72,9 @@ fn put_in(before: &mut [PlaceSet; MOST_PLACES], places: PlaceSet, origin: u8)
     requires { origin < 64 }
     ensures { (p q : ℕ) → has_at before.new p q ≡ (has_at before.old p q || (has places p && q == origin)) }
 {
-    let mut rest = places;
-    while let Some(place) = rest.first() {
+    for place in places.iter() {
         let row = usize::from(place);
         before[row] = before[row].with(origin);
-        rest = rest.without_first();
     }
 }
 
@@ -84,10 +82,8 @@ fn put_in(before: &mut [PlaceSet; MOST_PLACES], places: PlaceSet, origin: u8)
 fn take_out(before: &mut [PlaceSet; MOST_PLACES], places: PlaceSet, origin: u8)
     ensures { (p q : ℕ) → has_at before.new p q ≡ (has_at before.old p q && not (has places p && q == origin)) }
 {
-    let mut rest = places;
-    while let Some(place) = rest.first() {
+    for place in places.iter() {
         let row = usize::from(place);
         before[row] = before[row].without(origin);
-        rest = rest.without_first();
     }
 }

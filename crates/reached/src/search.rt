@@ -13,7 +13,7 @@ pub(crate) fn reached_from(first: PlaceSet, leads: &[PlaceSet; MOST_PLACES]) -> 
     // A work list: each turn may add places to `seen`, so no walk over one set will do.
     let mut seen = first;
     let mut done = PlaceSet::empty();
-    while let Some(place) = seen.minus(done).first() {
+    while let Some(place) = seen.difference(done).first() {
         done = done.with(place);
         seen = seen.union(leads[usize::from(place)]);
     }

@@ -8,7 +8,7 @@ use Rattle.theory.specs.Rows.{at}
 use Rattle.theory.specs.Firing.{Marking, one_at}
 use Rattle.theory.specs.Tallies.{Tally}
 use Rattle.place_sets.specs.Flags.{has, IsFirst}
-use Rattle.reached.proofs.Passed.{passed, one_passed, first_not_passed}
+use Rattle.place_sets.proofs.Passed.{passed, one_passed, first_not_passed}
 use Rattle.schedules.specs.declared.schedule.Schedule.{Schedule}
 use Rattle.schedules.specs.Shows.{Shows}
 use Rattle.theory.proofs.TallySums.{one_tells}

@@ -19,7 +19,7 @@ impl Schedule {
         ensures { Shows (N.meaning net.now).net (at counts.now) (at tally.now) self.new }
     {
         self.counts = *counts;
-        self.marked = marked_in(counts, net.places());
+        self.marked = marked_in(net, counts);
         for step in 0..net.steps() {
             let row = usize::from(step);
             self.inputs[row] = net.input(step).unwrap_or(0);

@@ -19,12 +19,10 @@ impl Schedule {
         ensures ready { IfSome result (λ t. has self.new.ready t ≡ true) }
         ensures kept { (N : NetMeaning) (m : Marking) (x : Tally) → Shows N m x self.old → Shows N m x self.new }
     {
-        let mut rest = self.ready;
-        while let Some(step) = rest.first() {
+        for step in self.ready.iter() {
             if self.is_safe(step) {
                 return Some(step);
             }
-            rest = rest.without_first();
         }
         None
     }
@@ -49,7 +47,7 @@ impl Schedule {
         ensures { result ≡ keeps_in self.now step }
     {
         let place = self.input(step);
-        self.counts[usize::from(place)] > 1 || self.yields(step).has(place)
+        self.counts[usize::from(place)] > 1 || self.yields(step).contains(place)
     }
 
     /// Whether no step that is left after this one takes at its input place.
@@ -74,6 +72,6 @@ impl Schedule {
     {
         let place = self.input(step);
         let held = self.marked.union(self.yields(step));
-        held.meets(self.origins.others(place))
+        held.intersects(self.origins.others(place))
     }
 }

@@ -32,7 +32,7 @@ impl Schedule {
         let others = self.takers[usize::from(place)].without(step);
         self.takers[usize::from(place)] = others;
         self.ready = self.ready.without(step);
-        let lost = self.yields(step).minus(self.yields_of(others));
+        let lost = self.yields(step).difference(self.yields_of(others));
         self.origins.lose(lost, place);
     }
 
@@ -41,10 +41,8 @@ impl Schedule {
         ensures { (p : ℕ) → has result p ≡ any_step (λ t. has steps t && has_at self.now.yields t p) }
     {
         let mut places = PlaceSet::empty();
-        let mut rest = steps;
-        while let Some(step) = rest.first() {
+        for step in steps.iter() {
             places = places.union(self.yields(step));
-            rest = rest.without_first();
         }
         places
     }

@@ -59,7 +59,7 @@ impl Schedule {
         ensures marked { (p : ℕ) → has self.new.marked p ≡ (has self.old.marked p && not (p == place)) }
     {
         self.marked = self.marked.without(place);
-        self.ready = self.ready.minus(self.takers[usize::from(place)]);
+        self.ready = self.ready.difference(self.takers[usize::from(place)]);
     }
 
     /// The places hold a block.
@@ -67,7 +67,7 @@ impl Schedule {
         ensures ready { KeepsReady self.old self.new }
         ensures marked { (p : ℕ) → has self.new.marked p ≡ (has self.old.marked p || has places p) }
     {
-        let fresh = places.minus(self.marked);
+        let fresh = places.difference(self.marked);
         self.marked = self.marked.union(places);
         self.ready = self.ready.union(takers_at(fresh, &self.takers));
     }
@@ -78,9 +78,7 @@ fn add_yields<N: Net>(counts: &mut [u32; PLACES], net: &N, step: u16, places: Pl
     requires { (p : ℕ) → at counts.old p + (N.meaning net.now).net.yields step p < 2 ^ 32 }
     ensures { (p : ℕ) → at counts.new p ≡ at counts.old p + cond (has places p) ((N.meaning net.now).net.yields step p) 0 }
 {
-    let mut rest = places;
-    while let Some(place) = rest.first() {
+    for place in places.iter() {
         counts[usize::from(place)] += u32::from(net.yield_at(step, place));
-        rest = rest.without_first();
     }
 }

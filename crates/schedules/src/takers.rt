@@ -13,10 +13,8 @@ pub(crate) fn takers_at(places: PlaceSet, takers: &[StepSet; PLACES]) -> StepSet
     ensures answer { (left : ℕ → Bool) (input : ℕ → ℕ) → ((p t : ℕ) → has_at takers.now p t ≡ (left t && input t == p)) → (t : ℕ) → has result t ≡ (left t && has places (input t)) }
 {
     let mut steps = StepSet::empty();
-    let mut rest = places;
-    while let Some(place) = rest.first() {
+    for place in places.iter() {
         steps = steps.union(takers[usize::from(place)]);
-        rest = rest.without_first();
     }
     steps
 }

@@ -10,7 +10,7 @@ use crate::sitting::Sitting;
 use answers::Finding;
 use boards::board::Board;
 use checks::{DONE_LIMIT, Target};
-use firings::move_blocks;
+use firings::move_ready;
 use nets::net::Net;
 use orders::fire_tally;
 use refusals::Refusal;
@@ -34,15 +34,13 @@ impl<N: Net, B: Board> Sitting<N, B> {
         if done_total(&self.done) + 1 > DONE_LIMIT {
             return Err(Refusal::DoneLimit);
         }
-        // Asked here and not taken from what `move_blocks` says, which asks for spare first: each refusal is promised,
-        // in this order.
         if self.board.count(input) == 0 {
             return Err(Refusal::InputEmpty(input));
         }
         if self.board.spare() + 1 < yields_of(&self.net, step) {
             return Err(Refusal::SpareShort);
         }
-        let _ = move_blocks(&self.net, &mut self.board, step);
+        move_ready(&self.net, &mut self.board, step);
         self.done[usize::from(step)] += 1;
         Ok(())
     }

@@ -2,13 +2,14 @@
 #![tactic(auto)]
 
 ghost use Rattle.std.specs.Prelude.{◌≡◌, ℕ, ◌^◌, ◌<◌, ◌≤◌, Bool, false, not, ◌&&◌, ◌||◌, Decides, MatchOption, ◌==◌, nat_lt};
-ghost use Rattle.place_sets.specs.Flags.{has, first_place, Empty, IsFirst};
+ghost use Rattle.place_sets.specs.Flags.{has, first_place, Empty, IsFirst, TakesFirst};
+ghost use Rattle.std.specs.Iterator.{at_most};
 
 use std::marker::Model;
 
 // Clauses read its word by the same `has` as that of a `PlaceSet`.
 /// A set of steps 0 to 127.
-#[derive(Clone, Copy)]
+#[derive(Clone, Copy, PartialEq, Eq, Debug)]
 pub struct StepSet {
     word: u128,
 }
@@ -55,7 +56,7 @@ impl StepSet {
         ensures answer { (t : ℕ) → has result t ≡ (has self t && not (t == step)) }
         ensures inside { (t : ℕ) → 128 ≤ t → has result t ≡ false }
     {
-        self.minus(StepSet::empty().with(step))
+        self.difference(StepSet::empty().with(step))
     }
 
     /// The set without its least step.
@@ -81,7 +82,7 @@ impl StepSet {
     }
 
     /// The steps of this set that are not in the other.
-    pub fn minus(self, other: StepSet) -> StepSet
+    pub fn difference(self, other: StepSet) -> StepSet
         ensures answer { (t : ℕ) → has result t ≡ (has self t && not (has other t)) }
         ensures inside { (t : ℕ) → 128 ≤ t → has result t ≡ false }
     {
@@ -104,5 +105,34 @@ impl StepSet {
     {
         // at most 127 where the word is not 0, so the cast keeps it
         (!self.is_empty()).then(|| self.word.trailing_zeros() as u16)
+    }
+
+    /// The steps of the set, by rising step.
+    pub fn iter(self) -> StepIter
+        ensures { result.rest ≡ self }
+    {
+        StepIter { rest: self }
+    }
+}
+
+/// The steps of a set, by rising step.
+#[derive(Drop)]
+pub struct StepIter {
+    /// The steps that are still to come.
+    rest: StepSet,
+}
+
+impl Iterator for StepIter {
+    type Item = u16;
+
+    ghost next_gives = { λ s step t. TakesFirst 128 s.rest step t.rest };
+
+    // Each turn leaves a smaller word.
+    ghost remaining = { λ s. at_most s.rest };
+
+    fn next(&mut self) -> Option<u16> {
+        let step = self.rest.first()?;
+        self.rest = self.rest.without_first();
+        Some(step)
     }
 }

@@ -15,7 +15,9 @@ use totals::finals::Asked;
 
 /// The finding at a place that is short.
 pub(crate) fn short_at<N: Net>(asked: &Asked<'_, N>, place: u8) -> Option<Finding>
-    ensures { result ≡ finding_at (is_short (N.meaning asked.now.net.now).net (at asked.now.counts.now) (at asked.now.tally.now)) (short_finding (N.meaning asked.now.net.now).net (at asked.now.counts.now) (at asked.now.tally.now)) place }
+    ensures { let flow = asked.now.flow.now in let net = (N.meaning flow.net.now).net in
+        let m = at asked.now.counts.now in let x = at flow.tally.now in
+        result ≡ finding_at (is_short net m x) (short_finding net m x) place }
 {
     if !asked.is_short(place) {
         return None;
@@ -28,7 +30,7 @@ pub(crate) fn short_at<N: Net>(asked: &Asked<'_, N>, place: u8) -> Option<Findin
 pub(crate) fn cut_off_at(cut_off: PlaceSet, place: u8) -> Option<Finding>
     ensures { result ≡ finding_at (has cut_off) cut_off_finding place }
 {
-    if !cut_off.has(place) {
+    if !cut_off.contains(place) {
         return None;
     }
     let cause = Cause::CutOff;
@@ -37,7 +39,10 @@ pub(crate) fn cut_off_at(cut_off: PlaceSet, place: u8) -> Option<Finding>
 
 /// The finding at a place that misses the target.
 pub(crate) fn missed_at<N: Net>(asked: &Asked<'_, N>, place: u8) -> Option<Finding>
-    ensures { result ≡ finding_at (is_missed (N.meaning asked.now.net.now).net (at asked.now.counts.now) (at asked.now.tally.now) (target_with asked.now.target.now asked.now.kind)) (missed_finding (N.meaning asked.now.net.now).net (at asked.now.counts.now) (at asked.now.tally.now) (target_with asked.now.target.now asked.now.kind)) place }
+    ensures { let flow = asked.now.flow.now in let net = (N.meaning flow.net.now).net in
+        let m = at asked.now.counts.now in let x = at flow.tally.now in
+        let target = target_with asked.now.target.now asked.now.kind in
+        result ≡ finding_at (is_missed net m x target) (missed_finding net m x target) place }
 {
     if !asked.is_missed(place) {
         return None;

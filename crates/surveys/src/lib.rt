@@ -36,7 +36,12 @@ pub fn list_findings<'a, N: Net, B: Board>(
     let kind = check_survey(net, done, tally, target, memory.len())?;
     let counts = all_counts(board);
     let flow = Flow::of(net, tally);
-    let asked = Asked::new(&flow, &counts, target.numbers, kind);
+    let asked = Asked {
+        flow: &flow,
+        counts: &counts,
+        target: target.numbers,
+        kind,
+    };
     let places = u16::from(net.places());
     let cut_off = cut_off_places(net, &counts, tally);
     let mut findings = BoundedList::new(memory);

@@ -37,7 +37,7 @@ fn a_table_answers_as_its_net(rt: HostRuntime) -> Result<(), Fail> {
     let places = net.read_yields(1, &mut row);
     assert_eq!(rt; (row[0], row[1], row[2], row[63]), (1, 5, 0, 0));
     assert_eq!(rt;
-        (places.has(0), places.has(1), places.has(2)),
+        (places.contains(0), places.contains(1), places.contains(2)),
         (true, true, false)
     );
     assert!(rt; net.read_yields(2, &mut row).is_empty());
@@ -61,7 +61,7 @@ fn a_table_read_again_answers_as_the_later_net(rt: HostRuntime) -> Result<(), Fa
         (4, 0, 0)
     );
     let mut row = [9; MOST_PLACES];
-    assert!(rt; table.read_yields(0, &mut row).has(0));
+    assert!(rt; table.read_yields(0, &mut row).contains(0));
     assert_eq!(rt; (row[0], row[2]), (4, 0));
     assert!(rt; table.yield_places(1).is_empty());
     Ok(())

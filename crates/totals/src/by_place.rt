@@ -5,7 +5,6 @@ ghost use Rattle.theory.specs.Tallies.{spent, gained};
 
 use crate::asked::times;
 use nets::net::{MOST_PLACES, Net};
-use place_sets::PlaceSet;
 
 /// The blocks that the steps of the tally take from each place.
 pub fn spent_by_place<N: Net>(net: &N, tally: &[u16]) -> [u32; MOST_PLACES]
@@ -40,10 +39,7 @@ fn add_yields<N: Net>(row: &mut [u32; MOST_PLACES], net: &N, step: u16, times: u
     ensures { (p : ℕ) → at row.new p ≡ at row.old p + times * (N.meaning net.now).net.yields step p }
 {
     // Most steps yield at few places, and only these are gone over.
-    let places = net.yield_places(step);
-    let mut done = PlaceSet::empty();
-    while let Some(place) = places.minus(done).first() {
+    for place in net.yield_places(step).iter() {
         row[usize::from(place)] += u32::from(times) * u32::from(net.yield_at(step, place));
-        done = done.with(place);
     }
 }

@@ -11,54 +11,28 @@ use answers::Kind;
 use nets::net::Net;
 use searches::least_below;
 
-/// A tally asked of a net, with the blocks at its places and the target that it is to meet.
+/// What is asked of a net: a tally, by its flow, the blocks at the places, and the target that it is to meet.
 #[derive(Drop)]
 pub struct Asked<'a, N: Net> {
-    pub net: &'a N,
+    pub flow: &'a Flow<'a, N>,
     pub counts: &'a [u32],
-    pub tally: &'a [u16],
     pub target: &'a [u32],
     pub kind: Kind,
-    // of the net and the tally above, which clauses name without it
-    flow: &'a Flow<'a, N>,
-    ghost same_net: { flow.now.net.now ≡ net.now },
-    ghost same_tally: { flow.now.tally.now ≡ tally.now },
 }
 
 impl<'a, N: Net> Asked<'a, N> {
-    /// Asks a tally of a net, by its flow.
-    pub fn new(
-        flow: &'a Flow<'a, N>,
-        counts: &'a [u32],
-        target: &'a [u32],
-        kind: Kind,
-    ) -> Asked<'a, N>
-        ensures net { result.net.now ≡ flow.now.net.now }
-        ensures counts { result.counts.now ≡ counts.now }
-        ensures tally { result.tally.now ≡ flow.now.tally.now }
-        ensures target { result.target.now ≡ target.now }
-        ensures kind { result.kind ≡ kind }
-    {
-        Asked {
-            net: flow.net,
-            counts,
-            tally: flow.tally,
-            target,
-            kind,
-            flow,
-        }
-    }
-
     /// The blocks that are spent at the place.
     fn spent(&self, place: u8) -> u32
-        ensures { result ≡ spent (N.meaning self.now.net.now).net (at self.now.tally.now) place }
+        ensures { let flow = self.now.flow.now in let net = (N.meaning flow.net.now).net in
+            result ≡ spent net (at flow.tally.now) place }
     {
         self.flow.spent(place)
     }
 
     /// The blocks that the place has and gains.
     fn has_and_gains(&self, place: u8) -> u64
-        ensures answer { result ≡ at self.now.counts.now place + gained (N.meaning self.now.net.now).net (at self.now.tally.now) place }
+        ensures answer { let flow = self.now.flow.now in let net = (N.meaning flow.net.now).net in
+            result ≡ at self.now.counts.now place + gained net (at flow.tally.now) place }
         ensures bound { result < 2 ^ 49 }
     {
         let has = self.counts.get(usize::from(place)).copied().unwrap_or(0);
@@ -74,14 +48,16 @@ impl<'a, N: Net> Asked<'a, N> {
 
     /// Whether more is spent at the place than it has and gains.
     pub fn is_short(&self, place: u8) -> bool
-        ensures { result ≡ is_short (N.meaning self.now.net.now).net (at self.now.counts.now) (at self.now.tally.now) place }
+        ensures { let flow = self.now.flow.now in let net = (N.meaning flow.net.now).net in
+            result ≡ is_short net (at self.now.counts.now) (at flow.tally.now) place }
     {
         self.has_and_gains(place) < u64::from(self.spent(place))
     }
 
     /// The final number of the place.
     pub fn final_number(&self, place: u8) -> i64
-        ensures answer { result ≡ final_number (N.meaning self.now.net.now).net (at self.now.counts.now) (at self.now.tally.now) place }
+        ensures answer { let flow = self.now.flow.now in let net = (N.meaning flow.net.now).net in
+            result ≡ final_number net (at self.now.counts.now) (at flow.tally.now) place }
         ensures bound { (neg_ℤ (pos (2 ^ 48)) <ℤ result) × (result <ℤ pos (2 ^ 49)) }
     {
         // below 2^49, so the cast keeps it
@@ -91,7 +67,9 @@ impl<'a, N: Net> Asked<'a, N> {
     /// Whether the tally would leave other than the wanted blocks at the place: more or fewer for an exact target,
     /// fewer for one that is to be covered.
     pub fn is_missed(&self, place: u8) -> bool
-        ensures { result ≡ is_missed (N.meaning self.now.net.now).net (at self.now.counts.now) (at self.now.tally.now) (target_with self.now.target.now self.now.kind) place }
+        ensures { let flow = self.now.flow.now in let net = (N.meaning flow.net.now).net in
+            let target = target_with self.now.target.now self.now.kind in
+            result ≡ is_missed net (at self.now.counts.now) (at flow.tally.now) target place }
     {
         let here = self.has_and_gains(place);
         let wanted = u64::from(self.wanted(place)) + u64::from(self.spent(place));
@@ -103,7 +81,8 @@ impl<'a, N: Net> Asked<'a, N> {
 
     /// By how many blocks the tally overshoots the target at the place; below 0 where it falls behind.
     pub fn missed_by(&self, place: u8) -> i64
-        ensures { result ≡ final_number (N.meaning self.now.net.now).net (at self.now.counts.now) (at self.now.tally.now) place -ℤ pos (at self.now.target.now place) }
+        ensures { let flow = self.now.flow.now in let net = (N.meaning flow.net.now).net in
+            result ≡ final_number net (at self.now.counts.now) (at flow.tally.now) place -ℤ pos (at self.now.target.now place) }
     {
         self.final_number(place) - i64::from(self.wanted(place))
     }
@@ -112,17 +91,20 @@ impl<'a, N: Net> Asked<'a, N> {
 
     /// The least short place.
     pub fn least_short(&self) -> Option<u8>
-        ensures { result ≡ least (is_short (N.meaning self.now.net.now).net (at self.now.counts.now) (at self.now.tally.now)) (N.meaning self.now.net.now).net.places }
+        ensures { let flow = self.now.flow.now in let net = (N.meaning flow.net.now).net in
+            result ≡ least (is_short net (at self.now.counts.now) (at flow.tally.now)) net.places }
     {
-        let places = u16::from(self.net.places());
+        let places = u16::from(self.flow.net.places());
         least_below(places, |place| self.is_short(place as u8)).map(|place| place as u8)
     }
 
     /// The least place that misses the target.
     pub fn least_missed(&self) -> Option<u8>
-        ensures { result ≡ least (is_missed (N.meaning self.now.net.now).net (at self.now.counts.now) (at self.now.tally.now) (target_with self.now.target.now self.now.kind)) (N.meaning self.now.net.now).net.places }
+        ensures { let flow = self.now.flow.now in let net = (N.meaning flow.net.now).net in
+            let target = target_with self.now.target.now self.now.kind in
+            result ≡ least (is_missed net (at self.now.counts.now) (at flow.tally.now) target) net.places }
     {
-        let places = u16::from(self.net.places());
+        let places = u16::from(self.flow.net.places());
         least_below(places, |place| self.is_missed(place as u8)).map(|place| place as u8)
     }
 }

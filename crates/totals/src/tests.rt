@@ -35,15 +35,30 @@ fn detour<'a>(rt: &impl Abort, file: &'a [u8]) -> Result<(), Fail> {
     net.load(file)?;
     let (counts, tally) = ([1, 0, 0], [0, 1, 2]);
     let flow = Flow::of(&net, &tally);
-    let at_least = Asked::new(&flow, &counts, &[0, 0, 0], Kind::AtLeast);
+    let at_least = Asked {
+        flow: &flow,
+        counts: &counts,
+        target: &[0, 0, 0],
+        kind: Kind::AtLeast,
+    };
     final_numbers(rt, &at_least)?;
     assert_eq!(rt;
         (at_least.least_missed(), at_least.missed_by(1)),
         (Some(1), -1)
     );
-    let exact = Asked::new(&flow, &counts, &[0, 0, 0], Kind::Exact);
+    let exact = Asked {
+        flow: &flow,
+        counts: &counts,
+        target: &[0, 0, 0],
+        kind: Kind::Exact,
+    };
     assert_eq!(rt; (exact.least_missed(), exact.missed_by(0)), (Some(0), 2));
-    let met = Asked::new(&flow, &counts, &[2, 0, 0], Kind::Exact);
+    let met = Asked {
+        flow: &flow,
+        counts: &counts,
+        target: &[2, 0, 0],
+        kind: Kind::Exact,
+    };
     assert_eq!(rt; met.is_missed(2), false);
     Ok(())
 }

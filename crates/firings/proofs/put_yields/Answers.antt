@@ -1,15 +1,17 @@
-use Rattle.std.proofs.Common.{◌≡◌, ℕ, ◌+◌, ◌<◌, false, not, sym, ap, ◌∙◌, inl, inr, arith}
-use Rattle.std.proofs.lemmas.Bool.{cases_lt, and_parts, not-true, ltb-true}
+use Rattle.std.proofs.Common.{rules, true, ◌≡◌, ℕ, ◌+◌, ◌<◌, sym, ap, ◌∙◌, inl, inr, arith}
+use Rattle.std.proofs.lemmas.Bool.{cases_lt, ltb-true}
 use Rattle.place_sets.specs.Flags.{has}
+use Rattle.place_sets.proofs.Passed.{passed, none_passed, one_passed, first_not_passed, rest_inside}
 use Rattle.boards.specs.Boards.{at}
 use Rattle.firings.proofs.Puts.{put_none, put_fits, put_more, put_accepted}
 use Rattle.firings.proofs.put_yields.Goals as goal
 
 pub loop-place-init : goal.loop-place-init
 loop-place-init g c =
-    let N = (g.N.Net.meaning c.args.net.now).net in (
-      put_none N.places (g.B.Board.counts c.args.board.now) (g.B.Board.spare c.args.board.now) (N.yields c.args.step) c.empty-done.result c.empty-done.ensures.answer,
-      c.empty-done.ensures.bound,
+    let N = (g.N.Net.meaning c.args.net.now).net in
+    let set : ℕ = c.into_iter-place-iterator.result.rest in (
+      put_none N.places (g.B.Board.counts c.args.board.now) (g.B.Board.spare c.args.board.now) (N.yields c.args.step) (passed set set) (none_passed set),
+      λ p e. e,
     )
 
 pub loop-place-preserved : goal.loop-place-preserved
@@ -23,21 +25,27 @@ loop-place-preserved g c =
     let b₀ = c.args.board.now in
     let b = c.loop-place.board in
     let b' = c.put.new.self in
-    let done : ℕ = c.loop-place.done in
-    let first = c.in-Some.ensures.cases in
-    let there = and_parts (has c.yield_places-places.result p) (not (has done p)) (sym (c.minus.ensures.answer p) ∙ first.in_it) in
-    let new : has done p ≡ false = not-true (has done p) there.1 in
-    let some : 0 < Y p = ltb-true 0 (Y p) (sym (c.yield_places-places.ensures p) ∙ there.0) in
-    let inside : p < n = elim (cases_lt p n) [
+    let set : ℕ = c.into_iter-place-iterator.result.rest in
+    let rest : ℕ = c.loop-place.place-iterator.rest in
+    let rest' : ℕ = c.next.new.self.rest in
+    let first = c.in-Some.ensures.steps.0 in
+    let less = c.in-Some.ensures.steps.1 in
+    let inside = c.loop-place.invariant.1 in
+    let is_set : set ≡ c.yield_places.result = search rules in
+    let there : has c.yield_places.result p ≡ true = sym (ap (λ w. has w p) is_set) ∙ inside p first.in_it in
+    let some : 0 < Y p = ltb-true 0 (Y p) (sym (c.yield_places.ensures p) ∙ there) in
+    let below : p < n = elim (cases_lt p n) [
       | inl l ↦ l
       | inr k ↦ absurd (omega (arith, some, N.law.no_yield_outside_places c.args.step p k))
     ] in
     let inv = c.loop-place.invariant.0 in
+    let new = first_not_passed 64 set rest p first in
+    let more = one_passed 64 set rest rest' p first inside less in
     let blocks : c.from.result ≡ Y p = c.from.ensures ∙ c.yield_at.ensures in
-    let fits = put_fits n Y done c.with-done.result p inside first.inside new c.with-done.ensures.answer (R b₀) (R b) c.requires inv.1 in
+    let fits = put_fits n Y (passed set rest) (passed set rest') p below new more (R b₀) (R b) c.requires inv.1 in
     let d = put_accepted p c.from.result (H b) (R b) c.put.result (H b') (R b') (omega (arith, first.inside)) (omega (arith, fits, blocks)) c.put.ensures.answer in (
-      put_more n Y done c.with-done.result p inside first.inside new c.with-done.ensures.answer (H b₀) (R b₀) (H b) (R b) (H b') (R b') inv
+      put_more n Y (passed set rest) (passed set rest') p below new more (H b₀) (R b₀) (H b) (R b) (H b') (R b') inv
           (λ q. d.raised q ∙ ap (λ (v : ℕ). H b q + at p q v) blocks)
           (omega (arith, d.lowered, blocks)),
-      c.with-done.ensures.bound,
+      rest_inside 64 set rest rest' p first inside less,
     )

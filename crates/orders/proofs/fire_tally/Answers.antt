@@ -23,7 +23,8 @@ returns-in_err-kind g c =
     let T = target_of a.target.numbers.now a.target.kind in
     let memory = a.memory.now in
     let e = c.in_err-kind.field-0.0 in
-    let size = sizes_as_asked N H R a.done.now tally a.target.numbers.now a.target.kind (length memory) c.spare.result (Some e) c.spare.ensures.answer (c.in_err-kind.ensures H) in
+    let size = sizes_as_asked N H R a.done.now tally a.target.numbers.now a.target.kind (length memory)
+    (g.N.Net.meaning c.of-flow.result.net.now).net c.of-flow.result.tally.now (ap (λ z. (g.N.Net.meaning z).net) c.of-flow.ensures.net) c.of-flow.ensures.tally c.spare.result (Some e) c.spare.ensures.answer (c.in_err-kind.ensures H) in
     let said : c.from_residual.result ≡ Err e = search rules in
     refused_tally N (held H R a.done.now) tally T memory e c.from_residual.result said
     (or_first (size_refusal N (held H R a.done.now) tally T (length memory)) (cause_refusal N H (at tally) T) e size)
@@ -38,14 +39,13 @@ returns-in_err-check_causes g c =
     let T = target_of a.target.numbers.now a.target.kind in
     let memory = a.memory.now in
     let e = c.in_err-check_causes.field-0.0 in
-    let q = c.new-asked.result in
     let checked = c.in_ok-kind.ensures H in
-    let size = sizes_as_asked N H R a.done.now tally a.target.numbers.now a.target.kind (length memory) c.spare.result None c.spare.ensures.answer checked.0 in
+    let size = sizes_as_asked N H R a.done.now tally a.target.numbers.now a.target.kind (length memory)
+    (g.N.Net.meaning c.of-flow.result.net.now).net c.of-flow.result.tally.now (ap (λ z. (g.N.Net.meaning z).net) c.of-flow.ensures.net) c.of-flow.ensures.tally c.spare.result None c.spare.ensures.answer checked.0 in
     let cause =
     causes_as_asked N H R a.done.now tally a.target.numbers.now a.target.kind (length memory)
-    (g.N.Net.meaning q.net.now).net q.counts.now q.tally.now q.target.now c.in_ok-kind.kind q.kind
-    (ap (λ z. (g.N.Net.meaning z).net) (c.new-asked.ensures.net ∙ c.of-flow.ensures.net)) (λ p. ap (λ z. at z p) c.new-asked.ensures.counts ∙ c.all_counts-counts.ensures.answer p)
-    (c.new-asked.ensures.tally ∙ c.of-flow.ensures.tally) c.new-asked.ensures.target c.new-asked.ensures.kind checked.1
+    (g.N.Net.meaning c.of-flow.result.net.now).net c.of-flow.result.tally.now (ap (λ z. (g.N.Net.meaning z).net) c.of-flow.ensures.net) c.of-flow.ensures.tally
+    c.all_counts-counts.result c.in_ok-kind.kind c.all_counts-counts.ensures.answer checked.1
     (Some e) (refused_with _ tt e c.in_err-check_causes.ensures) in
     let said : c.from_residual-in_err-check_causes.result ≡ Err e = search rules in
     refused_tally N (held H R a.done.now) tally T memory e c.from_residual-in_err-check_causes.result said
@@ -58,13 +58,11 @@ write_first_order-length-requires g c =
     let H = g.B.Board.counts a.board.now in
     let R = g.B.Board.spare a.board.now in
     let T = target_of a.target.numbers.now a.target.kind in
-    let q = c.new-asked.result in
     let checked = c.in_ok-kind.ensures H in
     let none =
     accepted_as_asked N.net H R a.done.now a.tally.now a.target.numbers.now a.target.kind (length a.memory.now)
-    (g.N.Net.meaning q.net.now).net q.counts.now q.tally.now q.target.now c.in_ok-kind.kind q.kind
-    (ap (λ z. (g.N.Net.meaning z).net) (c.new-asked.ensures.net ∙ c.of-flow.ensures.net)) (λ p. ap (λ z. at z p) c.new-asked.ensures.counts ∙ c.all_counts-counts.ensures.answer p)
-    (c.new-asked.ensures.tally ∙ c.of-flow.ensures.tally) c.new-asked.ensures.target c.new-asked.ensures.kind checked.1
+    (g.N.Net.meaning c.of-flow.result.net.now).net c.of-flow.result.tally.now (ap (λ z. (g.N.Net.meaning z).net) c.of-flow.ensures.net) c.of-flow.ensures.tally
+    c.all_counts-counts.result c.in_ok-kind.kind c.all_counts-counts.ensures.answer checked.1
     c.spare.result c.spare.ensures.answer checked.0 (accepted_with _ tt tt c.in_ok-check_causes.ensures) in
     record {
       can = can_be_done N.net N.law H R (g.met.B.Board.bounded a.board.now) (g.met.B.Board.outside a.board.now) a.done.now a.tally.now T a.memory.now none c.all_counts-counts.result c.all_counts-counts.ensures.answer;
@@ -79,13 +77,11 @@ move_order-requires g c =
     let H = g.B.Board.counts a.board.now in
     let R = g.B.Board.spare a.board.now in
     let T = target_of a.target.numbers.now a.target.kind in
-    let q = c.new-asked.result in
     let checked = c.in_ok-kind.ensures H in
     let none =
     accepted_as_asked N.net H R a.done.now a.tally.now a.target.numbers.now a.target.kind (length a.memory.now)
-    (g.N.Net.meaning q.net.now).net q.counts.now q.tally.now q.target.now c.in_ok-kind.kind q.kind
-    (ap (λ z. (g.N.Net.meaning z).net) (c.new-asked.ensures.net ∙ c.of-flow.ensures.net)) (λ p. ap (λ z. at z p) c.new-asked.ensures.counts ∙ c.all_counts-counts.ensures.answer p)
-    (c.new-asked.ensures.tally ∙ c.of-flow.ensures.tally) c.new-asked.ensures.target c.new-asked.ensures.kind checked.1
+    (g.N.Net.meaning c.of-flow.result.net.now).net c.of-flow.result.tally.now (ap (λ z. (g.N.Net.meaning z).net) c.of-flow.ensures.net) c.of-flow.ensures.tally
+    c.all_counts-counts.result c.in_ok-kind.kind c.all_counts-counts.ensures.answer checked.1
     c.spare.result c.spare.ensures.answer checked.0 (accepted_with _ tt tt c.in_ok-check_causes.ensures) in
     let w = c.write_first_order-length in
     record {
@@ -101,13 +97,11 @@ returns g c =
     let H = g.B.Board.counts a.board.now in
     let R = g.B.Board.spare a.board.now in
     let T = target_of a.target.numbers.now a.target.kind in
-    let q = c.new-asked.result in
     let checked = c.in_ok-kind.ensures H in
     let none =
     accepted_as_asked N.net H R a.done.now a.tally.now a.target.numbers.now a.target.kind (length a.memory.now)
-    (g.N.Net.meaning q.net.now).net q.counts.now q.tally.now q.target.now c.in_ok-kind.kind q.kind
-    (ap (λ z. (g.N.Net.meaning z).net) (c.new-asked.ensures.net ∙ c.of-flow.ensures.net)) (λ p. ap (λ z. at z p) c.new-asked.ensures.counts ∙ c.all_counts-counts.ensures.answer p)
-    (c.new-asked.ensures.tally ∙ c.of-flow.ensures.tally) c.new-asked.ensures.target c.new-asked.ensures.kind checked.1
+    (g.N.Net.meaning c.of-flow.result.net.now).net c.of-flow.result.tally.now (ap (λ z. (g.N.Net.meaning z).net) c.of-flow.ensures.net) c.of-flow.ensures.tally
+    c.all_counts-counts.result c.in_ok-kind.kind c.all_counts-counts.ensures.answer checked.1
     c.spare.result c.spare.ensures.answer checked.0 (accepted_with _ tt tt c.in_ok-check_causes.ensures) in
     let w = c.write_first_order-length in
     let b' = c.move_order.new.board in

@@ -9,9 +9,9 @@ use Rattle.orders.proofs.causes.check_causes.Goals as goal
 pub returns-in-Some-first : goal.returns-in-Some-first
 returns-in-Some-first g c =
     let a = c.args.asked.now in
-    let N = g.N.Net.meaning a.net.now in
+    let N = g.N.Net.meaning a.flow.now.net.now in
     let m = at a.counts.now in
-    let x = at a.tally.now in
+    let x = at a.flow.now.tally.now in
     let P = N.net.places in
     let T = target_with a.target.now a.kind in
     let cut = first_is_least (is_cut_off N.net m x) P c.cut_off_places.result c.cut_off_places.ensures c.first.result c.first.ensures.cases in
@@ -21,9 +21,9 @@ returns-in-Some-first g c =
 pub returns-in-Some-least_missed : goal.returns-in-Some-least_missed
 returns-in-Some-least_missed g c =
     let a = c.args.asked.now in
-    let N = g.N.Net.meaning a.net.now in
+    let N = g.N.Net.meaning a.flow.now.net.now in
     let m = at a.counts.now in
-    let x = at a.tally.now in
+    let x = at a.flow.now.tally.now in
     let P = N.net.places in
     let T = target_with a.target.now a.kind in
     let cut = first_is_least (is_cut_off N.net m x) P c.cut_off_places.result c.cut_off_places.ensures c.first.result c.first.ensures.cases in
@@ -33,9 +33,9 @@ returns-in-Some-least_missed g c =
 pub returns : goal.returns
 returns g c =
     let a = c.args.asked.now in
-    let N = g.N.Net.meaning a.net.now in
+    let N = g.N.Net.meaning a.flow.now.net.now in
     let m = at a.counts.now in
-    let x = at a.tally.now in
+    let x = at a.flow.now.tally.now in
     let P = N.net.places in
     let T = target_with a.target.now a.kind in
     let cut = first_is_least (is_cut_off N.net m x) P c.cut_off_places.result c.cut_off_places.ensures c.first.result c.first.ensures.cases in

@@ -3,5 +3,5 @@ use Rattle.place_sets.proofs.PlaceSet.without.Goals as goal
 
 pub returns : goal.returns
 returns c p =
-    without_flag 64 c.args.self c.with.result c.minus.result c.empty.result p c.args.place
-    c.empty.ensures.answer (c.with.ensures.answer p) (c.minus.ensures.answer p) (c.minus.ensures.inside p)
+    without_flag 64 c.args.self c.with.result c.difference.result c.empty.result p c.args.place
+    c.empty.ensures.answer (c.with.ensures.answer p) (c.difference.ensures.answer p) (c.difference.ensures.inside p)

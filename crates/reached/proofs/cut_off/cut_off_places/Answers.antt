@@ -1,4 +1,4 @@
-use Rattle.std.proofs.Common.{ℕ, ltb, ap, ◌∙◌, ◌&&◌}
+use Rattle.std.proofs.Common.{◌∙◌}
 use Rattle.theory.specs.Nets.{LawfulNet}
 use Rattle.theory.specs.Rows.{at}
 use Rattle.place_sets.specs.Flags.{has}
@@ -9,8 +9,8 @@ use Rattle.reached.proofs.cut_off.cut_off_places.Goals as goal
 pub returns : goal.returns
 returns g c p =
     let lawful : LawfulNet = g.N.Net.meaning c.args.net.now in
-    c.minus.ensures.answer p
+    c.difference.ensures.answer p
     ∙ cut_off_decided lawful.net lawful.law (at c.args.counts.now) (at c.args.tally.now) (has_at c.leads_of.result) (has c.marked_in-marked.result)
     (λ q r _. c.leads_of.ensures q r)
-    (λ q. c.marked_in-marked.ensures q ∙ ap (λ (v : ℕ). ltb q v && ltb 0 (at c.args.counts.now q)) c.places.ensures)
+    c.marked_in-marked.ensures
     _ _ p (c.used_by.ensures p) (c.reached_from.ensures p)

@@ -1,9 +1,11 @@
-use Rattle.std.proofs.Common.{ltb, ◌∙◌, rules}
+use Rattle.std.proofs.Common.{ℕ, ltb, ◌&&◌, ap, ◌∙◌, rules, arith}
 use Rattle.theory.specs.Rows.{at}
 use Rattle.reached.proofs.Flagged.{below_end}
 use Rattle.reached.proofs.leads.marked_in.Goals as goal
 
 pub returns : goal.returns
-returns c p =
+returns g c p =
+    let L = g.N.Net.meaning c.args.net.now in
     c.passing.ensures (λ k. ltb 0 (at c.args.counts.now k)) (λ k r l q. search rules) p
-    ∙ below_end c.args.places p (ltb 0 (at c.args.counts.now p)) c.requires
+    ∙ below_end c.places.result p (ltb 0 (at c.args.counts.now p)) (omega (arith, L.law.few_places, c.places.ensures))
+    ∙ ap (λ (v : ℕ). ltb p v && ltb 0 (at c.args.counts.now p)) c.places.ensures

@@ -3,12 +3,9 @@ use Rattle.std.proofs.lemmas.Bool.{lt-ltb}
 use Rattle.std.proofs.lemmas.Grind.{get_or_default_zero}
 use Rattle.place_sets.specs.Flags.{has}
 use Rattle.reached.specs.Led.{has_at}
-use Rattle.reached.proofs.Passed.{passed, rest_less, rest_inside, one_passed, more_added}
+use Rattle.place_sets.proofs.Passed.{passed, rest_inside, one_passed, more_added}
 use Rattle.reached.proofs.SetRows.{joined}
 use Rattle.reached.proofs.origins.put_in.Goals as goal
-
-pub loop-place-smaller : goal.loop-place-smaller
-loop-place-smaller c = rest_less 64 _ _ _ c.in-Some.ensures.cases c.without_first-rest.ensures.shrinks
 
 and_true : (v w : Bool) → w ≡ true → (v && w) ≡ v
 and_true true w e = e
@@ -17,11 +14,12 @@ and_true false w e = refl
 pub loop-place-preserved : goal.loop-place-preserved
 loop-place-preserved c =
     let k : ℕ = c.in-Some.place in
-    let set : ℕ = c.args.places in
-    let rest : ℕ = c.loop-place.rest in
+    let set : ℕ = c.into_iter-place-iterator.result.rest in
+    let rest : ℕ = c.loop-place.place-iterator.rest in
+    let rest' : ℕ = c.next.new.self.rest in
     let row = c.loop-place.before in
-    let first = c.in-Some.ensures.cases in
-    let less = c.without_first-rest.ensures.answer k first in
+    let first = c.in-Some.ensures.steps.0 in
+    let less = c.in-Some.ensures.steps.1 in
     let l : c.from-row.result < length row = omega (arith, c.from-row.ensures, first.inside, c.told-before) in (
       λ p q.
           joined row c.from-row.result c.with.result (λ q. eqb q c.args.origin) l
@@ -29,6 +27,6 @@ loop-place-preserved c =
           ∙ ap (λ (v : Bool). v || (eqb p c.from-row.result && eqb q c.args.origin)) (c.loop-place.invariant.0 p q)
           ∙ ap (λ (i : ℕ). (has_at c.args.before.now p q || (passed set rest p && eqb q c.args.origin)) || (eqb p i && eqb q c.args.origin)) c.from-row.ensures
           ∙ more_added (has_at c.args.before.now p q) (passed set rest p) (eqb p k) (eqb q c.args.origin)
-          ∙ ap (λ (v : Bool). has_at c.args.before.now p q || (v && eqb q c.args.origin)) (sym (one_passed 64 set rest c.without_first-rest.result k first c.loop-place.invariant.1 less p)),
-      rest_inside 64 set rest c.without_first-rest.result k first c.loop-place.invariant.1 less,
+          ∙ ap (λ (v : Bool). has_at c.args.before.now p q || (v && eqb q c.args.origin)) (sym (one_passed 64 set rest rest' k first c.loop-place.invariant.1 less p)),
+      rest_inside 64 set rest rest' k first c.loop-place.invariant.1 less,
     )

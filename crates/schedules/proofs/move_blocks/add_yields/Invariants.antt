@@ -1,13 +1,10 @@
 use Rattle.std.proofs.Common.{◌≡◌, ℕ, ◌+◌, true, cond}
 use Rattle.place_sets.specs.Flags.{has}
 use Rattle.theory.specs.Rows.{at}
-use Rattle.reached.proofs.Passed.{passed}
+use Rattle.place_sets.proofs.Passed.{passed}
 use Rattle.schedules.proofs.move_blocks.add_yields.Given as goal
 
 abbrev pub invariant-loop-place : goal.invariant-loop-place
 invariant-loop-place g l =
-    ((p : ℕ) → at l.counts p ≡ at l.initial.counts p + cond (passed l.initial.rest l.rest p) ((g.N.Net.meaning l.net).net.yields l.step p) 0)
-    × ((p : ℕ) → has l.rest p ≡ true → has l.initial.rest p ≡ true)
-
-abbrev pub decreases-loop-place : goal.decreases-loop-place
-decreases-loop-place g l = l.rest
+    ((p : ℕ) → at l.counts p ≡ at l.initial.counts p + cond (passed l.initial.place-iterator.rest l.place-iterator.rest p) ((g.N.Net.meaning l.net).net.yields l.step p) 0)
+    × ((p : ℕ) → has l.place-iterator.rest p ≡ true → has l.initial.place-iterator.rest p ≡ true)

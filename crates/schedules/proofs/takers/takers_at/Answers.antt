@@ -1,29 +1,28 @@
-use Rattle.std.proofs.Common.{ℕ, ◌<◌, Bool, length, ◌&&◌, ◌||◌, eqb, sym, ap, ◌∙◌, arith}
+use Rattle.std.proofs.Common.{rules, ◌≡◌, ℕ, ◌<◌, Bool, length, ◌&&◌, ◌||◌, eqb, sym, ap, ◌∙◌, arith}
 use Rattle.std.proofs.lemmas.Grind.{get_or_default_zero}
 use Rattle.place_sets.specs.Flags.{has}
 use Rattle.theory.specs.Rows.{at}
 use Rattle.reached.specs.Led.{has_at}
-use Rattle.reached.proofs.Passed.{passed, rest_less, rest_inside, one_passed, none_passed, all_passed}
+use Rattle.place_sets.proofs.Passed.{passed, rest_inside, one_passed, none_passed, all_passed}
 use Rattle.schedules.proofs.Added.{none_of, both_of}
 use Rattle.schedules.proofs.takers.takers_at.Goals as goal
 
 pub loop-place-init : goal.loop-place-init
 loop-place-init c = (
   λ left input _ t.
-      c.empty-steps.ensures.answer t ∙ sym (none_of (left t) (passed c.args.places c.args.places (input t)) (none_passed c.args.places (input t))),
+      c.empty-steps.ensures.answer t ∙ sym (none_of (left t) (passed c.into_iter-place-iterator.result.rest c.into_iter-place-iterator.result.rest (input t)) (none_passed c.into_iter-place-iterator.result.rest (input t))),
   λ t h. c.empty-steps.ensures.answer t,
   λ p e. e,
 )
 
-pub loop-place-smaller : goal.loop-place-smaller
-loop-place-smaller c = rest_less 64 _ _ _ c.in-Some.ensures.cases c.without_first-rest.ensures.shrinks
-
 pub loop-place-preserved : goal.loop-place-preserved
 loop-place-preserved c =
     let k : ℕ = c.in-Some.place in
-    let rest : ℕ = c.loop-place.rest in
-    let first = c.in-Some.ensures.cases in
-    let less = c.without_first-rest.ensures.answer k first in
+    let set : ℕ = c.into_iter-place-iterator.result.rest in
+    let rest : ℕ = c.loop-place.place-iterator.rest in
+    let rest' : ℕ = c.next.new.self.rest in
+    let first = c.in-Some.ensures.steps.0 in
+    let less = c.in-Some.ensures.steps.1 in
     let inside = c.loop-place.invariant.2 in
     let row = c.args.takers.now in
     let l : c.from.result < length row = omega (arith, c.from.ensures, first.inside, c.told-takers) in (
@@ -31,11 +30,11 @@ loop-place-preserved c =
           c.union-steps.ensures.answer t
           ∙ ap (λ v. has c.loop-place.steps t || has v t) (get_or_default_zero row c.from.result c.index-takers-from.result l ∙ ap (at row) c.from.ensures)
           ∙ ap (λ (v : Bool). v || has_at row k t) (c.loop-place.invariant.0 left input all t)
-          ∙ ap (λ (v : Bool). (left t && passed c.args.places rest (input t)) || v) (all k t)
-          ∙ both_of (left t) (passed c.args.places rest (input t)) (eqb (input t) k)
-          ∙ ap (λ (v : Bool). left t && v) (sym (one_passed 64 c.args.places rest c.without_first-rest.result k first inside less (input t))),
+          ∙ ap (λ (v : Bool). (left t && passed set rest (input t)) || v) (all k t)
+          ∙ both_of (left t) (passed set rest (input t)) (eqb (input t) k)
+          ∙ ap (λ (v : Bool). left t && v) (sym (one_passed 64 set rest rest' k first inside less (input t))),
       λ t h. c.union-steps.ensures.inside t h,
-      rest_inside 64 c.args.places rest c.without_first-rest.result k first inside less,
+      rest_inside 64 set rest rest' k first inside less,
     )
 
 pub returns-clause-inside : goal.returns-clause-inside
@@ -43,5 +42,7 @@ returns-clause-inside c = c.loop-place.invariant.1
 
 pub returns-clause-answer : goal.returns-clause-answer
 returns-clause-answer c left input all t =
+    let set : ℕ = c.into_iter-place-iterator.result.rest in
+    let is_set : set ≡ c.args.places = search rules in
     c.loop-place.invariant.0 left input all t
-    ∙ ap (λ (v : Bool). left t && v) (all_passed c.args.places c.loop-place.rest (input t) (c.in_default.ensures.cases (input t)))
+    ∙ ap (λ (v : Bool). left t && v) (all_passed set c.loop-place.place-iterator.rest (input t) (c.in-None.ensures.steps (input t)) ∙ ap (λ (w : ℕ). has w (input t)) is_set)

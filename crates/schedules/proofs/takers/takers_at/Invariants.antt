@@ -1,16 +1,13 @@
 use Rattle.std.proofs.Common.{◌≡◌, ℕ, ◌≤◌, Bool, true, false, ◌&&◌, eqb}
 use Rattle.place_sets.specs.Flags.{has}
 use Rattle.reached.specs.Led.{has_at}
-use Rattle.reached.proofs.Passed.{passed}
+use Rattle.place_sets.proofs.Passed.{passed}
 use Rattle.schedules.proofs.takers.takers_at.Given as goal
 
 -- the steps that take at the places passed so far
 abbrev pub invariant-loop-place : goal.invariant-loop-place
 invariant-loop-place l =
     ((left : ℕ → Bool) (input : ℕ → ℕ) → ((p t : ℕ) → has_at l.takers p t ≡ (left t && eqb (input t) p)) →
-    (t : ℕ) → has l.steps t ≡ (left t && passed l.initial.rest l.rest (input t)))
+    (t : ℕ) → has l.steps t ≡ (left t && passed l.initial.place-iterator.rest l.place-iterator.rest (input t)))
     × ((t : ℕ) → 128 ≤ t → has l.steps t ≡ false)
-    × ((p : ℕ) → has l.rest p ≡ true → has l.initial.rest p ≡ true)
-
-abbrev pub decreases-loop-place : goal.decreases-loop-place
-decreases-loop-place l = l.rest
+    × ((p : ℕ) → has l.place-iterator.rest p ≡ true → has l.initial.place-iterator.rest p ≡ true)

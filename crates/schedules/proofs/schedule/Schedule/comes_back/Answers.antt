@@ -21,7 +21,7 @@ returns-clause-answer c =
     let held : (q : ℕ) → has c.union-held.result q ≡ (has s.marked q || has_at s.yields t q) =
     λ q. c.union-held.ensures q ∙ ap (λ (v : Bool). has s.marked q || v) (c.yields.ensures q) in (
       λ e.
-          let w = c.meets.ensures.0 e in
+          let w = c.intersects.ensures.0 e in
           let far = ((found w.0).0 w.2).1 in
           let first : marked_after s t w.0 ≡ true = elim (or_cases (has s.marked w.0) (has_at s.yields t w.0) (sym (held w.0) ∙ w.1)) [
             | inl h ↦
@@ -30,12 +30,12 @@ returns-clause-answer c =
             | inr h ↦ or_right (has s.marked w.0 && not (eqb w.0 p)) (has_at s.yields t w.0) h
           ] in
           led_from leads (has_at s.origins.before) (λ z q. refl) (marked_after s t) p above all w.0 first (or_right (eqb w.0 p) (others w.0) w.2),
-      λ r. elim (cases_Bool c.meets.result) [
+      λ r. elim (cases_Bool c.intersects.result) [
         | inl e ↦ e
         | inr e ↦ absurd (led_only_from leads (has_at s.origins.before) (λ z q. refl) (marked_after s t) p above all
             (λ q h a. elim (or_cases (eqb q p) (others q) a) [
               | inl same ↦ both_ways (marked_after s t p) (here s t p c.requires.none) (ap (marked_after s t) (sym (eqb-true q p same)) ∙ h)
-              | inr o ↦ both_ways c.meets.result e (c.meets.ensures.1 (q, held q ∙ still s t q h, o))
+              | inr o ↦ both_ways c.intersects.result e (c.intersects.ensures.1 (q, held q ∙ still s t q h, o))
             ]) r)
       ],
     )

@@ -35,7 +35,7 @@ returns c =
       before = λ p q.
           c.lose.ensures p q
           ∙ ap (λ (v : Bool). has_at s.origins.before p q && not (v && eqb q c.input-place.result))
-          (c.minus-lost.ensures.answer p
+          (c.difference-lost.ensures.answer p
           ∙ ap (λ (v : Bool). v && not (has c.yields_of.result p)) (c.yields.ensures p)
           ∙ ap (λ (v : Bool). has_at s.yields t p && not v)
           (c.yields_of.ensures p

@@ -8,8 +8,5 @@ use Rattle.schedules.proofs.schedule.Schedule.next_step.Given as goal
 abbrev pub invariant-loop-step : goal.invariant-loop-step
 invariant-loop-step l =
     Kept l.initial.self l.self
-    × ((t : ℕ) → has l.rest t ≡ true → has l.initial.self.ready t ≡ true)
-    × ((t : ℕ) → has l.initial.self.ready t ≡ true → has l.rest t ≡ false → TellsSafe l.initial.self t false)
-
-abbrev pub decreases-loop-step : goal.decreases-loop-step
-decreases-loop-step l = l.rest
+    × ((t : ℕ) → has l.step-iterator.rest t ≡ true → has l.initial.self.ready t ≡ true)
+    × ((t : ℕ) → has l.initial.self.ready t ≡ true → has l.step-iterator.rest t ≡ false → TellsSafe l.initial.self t false)

@@ -1,4 +1,4 @@
-use Rattle.std.proofs.Common.{◌≡◌, ℕ, ◌<◌, ltb, ◌&&◌, refl, ap, ◌∙◌, rules, arith}
+use Rattle.std.proofs.Common.{◌≡◌, ℕ, ◌<◌, refl, ap, ◌∙◌, rules, arith}
 use Rattle.theory.specs.Nets.{LawfulNet}
 use Rattle.theory.specs.Rows.{at}
 use Rattle.nets.proofs.InputLaws.{input_or_0}
@@ -12,7 +12,7 @@ loop-step-init g c =
     read_none lawful.net (at c.args.counts.now) (at c.args.tally.now) c.args.self.now _ c.requires
     (record { inputs = refl; yields = refl; takers = refl; before = refl })
     (omega arith) (omega arith) (omega arith) (λ p. refl)
-    (λ p. c.marked_in-self.ensures p ∙ ap (λ (v : ℕ). ltb p v && ltb 0 (at c.args.counts.now p)) c.places.ensures)
+    c.marked_in-self.ensures
 
 pub loop-step-preserved : goal.loop-step-preserved
 loop-step-preserved g c =

@@ -1,15 +1,12 @@
 use Rattle.std.proofs.Common.{◌≡◌, ℕ, true, ◌&&◌}
 use Rattle.place_sets.specs.Flags.{has}
 use Rattle.reached.specs.Led.{has_at}
-use Rattle.reached.proofs.Passed.{passed}
+use Rattle.place_sets.proofs.Passed.{passed}
 use Rattle.schedules.specs.Tables.{any_step}
 use Rattle.schedules.proofs.schedule.Schedule.yields_of.Given as goal
 
 -- where the steps passed so far yield
 abbrev pub invariant-loop-step : goal.invariant-loop-step
 invariant-loop-step l =
-    ((p : ℕ) → has l.places p ≡ any_step (λ t. passed l.initial.rest l.rest t && has_at l.self.yields t p))
-    × ((t : ℕ) → has l.rest t ≡ true → has l.initial.rest t ≡ true)
-
-abbrev pub decreases-loop-step : goal.decreases-loop-step
-decreases-loop-step l = l.rest
+    ((p : ℕ) → has l.places p ≡ any_step (λ t. passed l.initial.step-iterator.rest l.step-iterator.rest t && has_at l.self.yields t p))
+    × ((t : ℕ) → has l.step-iterator.rest t ≡ true → has l.initial.step-iterator.rest t ≡ true)

@@ -3,7 +3,7 @@ use Rattle.std.proofs.lemmas.Bool.{cases_lt, lt-ltb, le-ltb, eq-eqb, ne_eqb}
 use Rattle.std.proofs.lemmas.Nat.Bits.{shr_and_one}
 use Rattle.place_sets.specs.Flags.{has}
 use Rattle.place_sets.proofs.FlagLaws.{has_above}
-use Rattle.place_sets.proofs.PlaceSet.has.Goals as goal
+use Rattle.place_sets.proofs.PlaceSet.contains.Goals as goal
 
 -- the flag at the last bits of a place inside is that of the place
 flag_inside : (w p : ℕ) → p < 64 → eqb (bit_and (w / 2 ^ (p % 64)) 1) 1 ≡ has w p

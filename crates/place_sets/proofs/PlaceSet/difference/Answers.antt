@@ -1,6 +1,6 @@
 use Rattle.std.proofs.Common.{arith, w64}
 use Rattle.place_sets.proofs.FlagLaws.{has_minus, minus_above}
-use Rattle.place_sets.proofs.PlaceSet.minus.Goals as goal
+use Rattle.place_sets.proofs.PlaceSet.difference.Goals as goal
 
 pub returns-clause-answer : goal.returns-clause-answer
 returns-clause-answer c =

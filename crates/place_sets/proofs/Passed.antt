@@ -1,8 +1,7 @@
--- A loop over a set that drops the first of the rest at each turn: which of the set were passed.
-use Rattle.std.proofs.Common.{◌≡◌, ℕ, ◌<◌, Bool, true, false, not, ◌&&◌, ◌||◌, eqb, sym, refl, ap, ◌∙◌, subst, inl, inr}
+-- A loop over a set: which of the set were passed, where the rest is still to come.
+use Rattle.std.proofs.Common.{◌≡◌, ℕ, Bool, true, false, not, ◌&&◌, ◌||◌, eqb, sym, refl, ap, ◌∙◌, subst, inl, inr}
 use Rattle.std.proofs.lemmas.Bool.{cases_eq, eq-eqb, ne_eqb, and_parts}
 use Rattle.place_sets.specs.Flags.{has, IsFirst}
-use Rattle.place_sets.proofs.LeastFlag.{some_not_zero}
 
 and_all : (v : Bool) → (v && not false) ≡ v
 and_all true = refl
@@ -15,10 +14,6 @@ or_nothing false = refl
 -- p is in the set and was passed
 abbrev pub passed : ℕ → ℕ → ℕ → Bool
 passed set rest p = has set p && not (has rest p)
-
--- the rest gets less
-pub rest_less : (n rest rest' k : ℕ) → IsFirst n rest k → (0 < rest → rest' < rest) → rest' < rest
-rest_less n rest rest' k first less = less (some_not_zero rest k first.in_it)
 
 module _ (n set rest rest' k : ℕ) (first : IsFirst n rest k) (inside : (p : ℕ) → has rest p ≡ true → has set p ≡ true)
     (less : (p : ℕ) → has rest' p ≡ (has rest p && not (eqb p k))) where

@@ -1,7 +1,7 @@
 use Rattle.std.proofs.Common.{arith}
 use Rattle.std.specs.Int.{w128}
 use Rattle.place_sets.proofs.FlagLaws.{has_minus, minus_above}
-use Rattle.step_sets.proofs.StepSet.minus.Goals as goal
+use Rattle.step_sets.proofs.StepSet.difference.Goals as goal
 
 pub returns-clause-answer : goal.returns-clause-answer
 returns-clause-answer c =
