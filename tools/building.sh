@@ -117,8 +117,9 @@ place() {
     new=$built/new-$$
     rm -rf -- "$new" && mkdir -p -- "$new" && cp -- "$3" "$new/$1" && chmod 755 "$new/$1" && sync -- "$new/$1" ||
         fail "the program $1 is built, but cannot be put into $built"
-    mv -T -- "$new" "$built/$1-$2" 2>/dev/null || [ -x "$built/$1-$2/$1" ] ||
-        fail "the program $1 is built, but cannot be put into $built"
+    # Another build of the same sources may have been first.
+    why=$(mv -T -- "$new" "$built/$1-$2" 2>&1) || [ -x "$built/$1-$2/$1" ] ||
+        fail "the program $1 is built, but cannot be put into $built: $why"
     rm -rf -- "$new"
     new=
     find "$built" -maxdepth 1 -name "$1-*" ! -name "$1-$2" -mmin +60 -exec rm -rf {} + 2>/dev/null
@@ -193,7 +194,7 @@ build() {
         program=$built/$one-$sum/$one
     done
     tidy
-    printf 'zaldrum: %s built after %s\n' "$what" "$(minutes)" >&2
+    printf 'zaldrum: built %s in %s\n' "$what" "$(minutes)" >&2
 }
 
 # Builds those of the four programs that are not built of the present sources.
