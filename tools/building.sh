@@ -32,7 +32,10 @@ lines_of() {
         END {
             count = split(wanted, first, " ")
             for (i = 1; i <= count; i++) take(first[i])
-            for (i = 1; i <= all; i++) if (name[i] in taken) { names = names " " name[i]; lines = lines "\n" line[name[i]] }
+            for (i = 1; i <= all; i++) if (name[i] in taken) {
+                names = names " " name[i]
+                lines = lines "\n" line[name[i]]
+            }
             print names lines
         }' "$here/crates.txt"
 }
@@ -158,7 +161,7 @@ prove() {
     child=$!
     while kill -0 "$child" 2>/dev/null; do
         tell
-        sleep 0.5
+        [ $((now - started)) -lt 3 ] && sleep 0.1 || sleep 0.5
     done
     wait "$child"
     status=$?
@@ -244,7 +247,7 @@ take_built() {
         fi
         shift
     done
-    (run_build) || failed=$((failed + 1))
+    (room= && run_build) || failed=$((failed + 1))
 }
 
 # Adds the numbers of the last line `N passed, M failed` of a file; with no such line nothing was judged.
@@ -254,9 +257,17 @@ add_results() {
     failed=$((failed + ${2:-1}))
 }
 
-# Prints what comes, and keeps it in a file; a last line `N passed, M failed` gets a name in front, as the sum follows.
-show_and_keep() {
-    tee "$2" | sed -u "s/^[0-9][0-9]* passed, [0-9][0-9]* failed\$/$1: &/"
+# Runs a command under a name, shows what it prints, keeps that in a file of room and sets status. A last line
+# `N passed, M failed` gets the name in front, as the sum follows.
+follow() {
+    tee "$room/$2" <"$room/said" | sed -u "s/^[0-9][0-9]* passed, [0-9][0-9]* failed\$/$1: &/" &
+    shift 2
+    "$@" >"$room/said" 2>&1 &
+    child=$!
+    wait "$child"
+    status=$?
+    child=
+    wait
 }
 
 # Runs the gate and then the trials on what it built. The gate passes with must-fail edits that do not fit their
@@ -268,32 +279,22 @@ run_test() {
     make_room
     : >"$room/started" && mkfifo "$room/said" || fail "no temporary files can be written in $room"
     passed=0 failed=0
-    (cd -- "$here/" && exec rt ci) >"$room/said" 2>&1 &
-    child=$!
-    show_and_keep 'rt ci' "$room/log" <"$room/said" &
-    wait "$child"
-    status=$?
-    child=
-    wait
+    follow 'rt ci' log env -C "$here/" rt ci
     add_results "$room/log"
     unfit=$(sed -n 's/^rt: ok.*, \([1-9][0-9]*\) bad.*/\1/p' "$room/log")
     [ -z "$unfit" ] || printf 'zaldrum: must-fail edits that do not fit: %s\n' "$unfit" >&2
     failed=$((failed + ${unfit:-0}))
     if [ "$status" -eq 0 ]; then
         take_built $before
-        "$here/tools/try_commands" >"$room/said" 2>&1 &
-        child=$!
-        show_and_keep trials "$room/trials" <"$room/said"
-        wait "$child" || [ "$failed" -gt 0 ] || status=1
-        child=
+        follow trials trials "$here/tools/try_commands"
         add_results "$room/trials"
     else
         printf 'zaldrum: no trials of the programs, as not everything is proved\n' >&2
-        [ "$failed" -gt 0 ] || failed=1
     fi
+    [ "$status" -eq 0 ] || [ "$failed" -gt 0 ] || failed=1
+    [ "$status" -ne 0 ] || [ "$failed" -eq 0 ] || status=1
     tidy
     printf '%s passed, %s failed\n' "$passed" "$failed"
-    [ "$status" -ne 0 ] || [ "$failed" -eq 0 ] || status=1
     exit "$status"
 }
 
