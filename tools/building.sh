@@ -119,10 +119,10 @@ $files"
 place() {
     new=$built/new-$$
     rm -rf -- "$new" && mkdir -p -- "$new" && cp -- "$3" "$new/$1" && chmod 755 "$new/$1" && sync -- "$new/$1" ||
-        fail "the program $1 is built, but cannot be put into $built"
+        fail "$1 is built, but its program cannot be put into $built"
     # Another build of the same sources may have been first.
     why=$(mv -T -- "$new" "$built/$1-$2" 2>&1) || [ -x "$built/$1-$2/$1" ] ||
-        fail "the program $1 is built, but cannot be put into $built: $why"
+        fail "$1 is built, but its program cannot be put into $built: $why"
     rm -rf -- "$new"
     new=
     find "$built" -maxdepth 1 -name "$1-*" ! -name "$1-$2" -mmin +60 -exec rm -rf {} + 2>/dev/null
@@ -169,6 +169,7 @@ prove() {
     [ "$status" -eq 0 ] && return
     awk -v from="$room/repo" '
         /: proved$|^(statements|library|logic|empty contracts)[ :=]/ && !/^rt: / { next }
+        /^rt: .* (is kept: an earlier run|NOT PROVED: its library) / { next }
         { while (at = index($0, from "/")) $0 = substr($0, 1, at - 1) substr($0, at + length(from) + 1); print }
         ' "$room/log" >&2
     fail "$1 could not be built: 'rt ci' ended with status $status; what it said is above"
@@ -180,6 +181,7 @@ build() {
     what=$(printf '%s, ' "$@")
     what=${what%, }
     need_toolchain "$what"
+    mkdir -p -- "$built" && [ -w "$built" ] || fail "programs cannot be put into $built"
     stand_on "$@"
     printf 'zaldrum: proving and building %s, which may take some minutes\n' "$what" >&2
     make_room
