@@ -1,20 +1,17 @@
 //! The arguments of a program, which may be any bytes.
-ghost use Rattle.std.specs.Prelude.{◌≡◌, ◌≤◌, IfOk, IfSome, vec_len};
-
 use crate::endings::Failure;
 use crate::files::Source;
-use crate::lines::one_line;
+use crate::names::one_line;
 use clap::ArgMatches;
-use std::alloc::Global;
+use std::alloc::{AllocError, Global};
 use std::env::FillError;
-use std::io;
 use std::rt::Env;
 
 /// How often the room for an argument is doubled: from 256 bytes to more than any system passes.
 const DOUBLINGS: u8 = 24;
 
 /// The bytes of an argument; none where there are not so many arguments.
-fn argument<R: Env + AllocGlobal>(rt: &R, place: usize) -> io::Result<Option<Vec<u8>>> {
+fn argument<R: Env + AllocGlobal>(rt: &R, place: usize) -> Result<Option<Vec<u8>>, AllocError> {
     let mut room = 256usize;
     for _ in 0..DOUBLINGS {
         let mut bytes = vec![in rt.alloc(); 0u8; room]?;
@@ -27,13 +24,13 @@ fn argument<R: Env + AllocGlobal>(rt: &R, place: usize) -> io::Result<Option<Vec
             Err(FillError::TooLong) => room = room.saturating_mul(2),
         }
     }
-    Err(io::Error::from(io::ErrorKind::ArgumentListTooLong))
+    Err(AllocError)
 }
 
 /// The words of the command line for a parser of options, which reads text: the program as its user calls it, then
 /// each argument on one line, as [`one_line`] writes it. So a parser takes arguments of any bytes, and what it says
 /// of one has no control characters.
-pub fn words<R: Env + AllocGlobal>(rt: &R, program: &str) -> io::Result<Vec<String>> {
+pub fn words<R: Env + AllocGlobal>(rt: &R, program: &str) -> Result<Vec<String>, AllocError> {
     let mut words = vec![in rt.alloc(); String::from_str(rt.alloc(), program)?]?;
     for place in 1..usize::MAX {
         let Some(argument) = argument(rt, place)? else {
@@ -59,4 +56,16 @@ pub fn sources(
         sources.push(Source::of_word(alloc, *name)?)?;
     }
     Ok(sources)
+}
+
+/// What the only value of an argument names; standard input where there is none.
+pub fn only_source(
+    alloc: Global,
+    matches: &ArgMatches<'_>,
+    argument: &str,
+) -> Result<Source, AllocError> {
+    match matches.get_str(argument) {
+        Some(word) => Source::of_word(alloc, word),
+        None => Source::input(alloc),
+    }
 }

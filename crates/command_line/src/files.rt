@@ -1,10 +1,14 @@
 //! Files that a user names, standard input among them: what is read of one, how much, and what is said where it
 //! cannot be read.
-ghost use Rattle.std.specs.Prelude.{◌≡◌, IfOk, IfSome, take, string_bytes, MatchResult};
+ghost use Rattle.std.specs.Prelude.{◌≡◌, ◌≢◌, ◌≤◌, IfOk, IfSome, take, string_bytes, vec_len, codes, MatchResult};
+ghost use Rattle.command_line.specs.Names.{one_line};
+ghost use Rattle.command_line.specs.Files.{Opens, IsNamedBy};
 ghost use Rattle.std.specs.Str.{IsUtf8};
 
-use crate::lines::{one_line, read_back};
+use crate::endings::Failure;
+use crate::names::{one_line, read_back};
 use std::alloc::{AllocError, Global};
+use std::fmt::Display;
 use std::fs::File;
 use std::io::{ErrorKind, IsTerminal, Read};
 use std::{io, str};
@@ -21,6 +25,10 @@ pub enum Unread {
     NoLeave,
     #[error("its name is no text in UTF-8, so this program cannot open it; give the file on standard input, with '<'")]
     NameNoText,
+    #[error("the name of a file is empty")]
+    NoName,
+    #[error("its last name has no text behind it to print, so that file is not judged")]
+    NoShown,
     #[error("it has more than {0} bytes, the most that is read here; is it another file?")]
     TooLong(u32),
     #[error("line {0}: a byte that is no text in UTF-8; save the file as UTF-8")]
@@ -42,24 +50,27 @@ impl From<io::Error> for Unread {
 
 /// What is opened.
 #[derive(Drop)]
-enum Opened {
+pub enum Opened {
     Input,
     File(String),
-    /// A file whose name is no text.
+    /// A file whose name is no text, which cannot be opened here.
     NoText,
 }
 
 /// What is read: a file, or standard input.
 #[derive(Drop)]
 pub struct Source {
-    opened: Opened,
+    pub opened: Opened,
     /// What is printed for it, on one line.
     pub shown: String,
 }
 
 impl Source {
     /// Standard input.
-    pub fn input(alloc: Global) -> Result<Source, AllocError> {
+    pub fn input(alloc: Global) -> Result<Source, AllocError>
+        ensures opened { IfOk result (λ s. s.opened ≡ Opened.Input) }
+        ensures shown { IfOk result (λ s. string_bytes s.shown ≡ codes "standard input") }
+    {
         Ok(Source {
             opened: Opened::Input,
             shown: String::from_str(alloc, "standard input")?,
@@ -67,7 +78,10 @@ impl Source {
     }
 
     /// The file with this name, and what is printed for it.
-    pub fn file(alloc: Global, name: &[u8], shown: &[u8]) -> Result<Source, AllocError> {
+    pub fn file(alloc: Global, name: &[u8], shown: &[u8]) -> Result<Source, AllocError>
+        ensures opened { IfOk result (λ s. Opens name.now s.opened) }
+        ensures shown { IfOk result (λ s. string_bytes s.shown ≡ one_line shown.now) }
+    {
         let opened = match str::from_utf8(name) {
             Ok(text) => Opened::File(String::from_str(alloc, text)?),
             Err(_) => Opened::NoText,
@@ -76,13 +90,23 @@ impl Source {
         Ok(Source { opened, shown })
     }
 
-    /// What an argument names, which is given on one line: standard input for `-`, else a file.
-    pub fn of_word(alloc: Global, word: &str) -> Result<Source, AllocError> {
+    /// What an argument names, which is given on one line: standard input for `-`, else a file. A word that no
+    /// argument has on one line names a file that cannot be opened.
+    pub fn of_word(alloc: Global, word: &str) -> Result<Source, AllocError>
+        ensures input { IfOk result (λ s. word.now ≡ codes "-" → s.opened ≡ Opened.Input) }
+        ensures file { IfOk result (λ s. word.now ≢ codes "-" → IsNamedBy word.now s.opened) }
+        ensures shown { IfOk result (λ s. word.now ≢ codes "-" → string_bytes s.shown ≡ word.now) }
+    {
         if word == "-" {
             return Source::input(alloc);
         }
-        let name = read_back(alloc, word)?;
-        Source::file(alloc, name.as_slice(), name.as_slice())
+        match read_back(alloc, word)? {
+            Some(name) => Source::file(alloc, name.as_slice(), name.as_slice()),
+            None => Ok(Source {
+                opened: Opened::NoText,
+                shown: String::from_str(alloc, word)?,
+            }),
+        }
     }
 
     /// The first bytes of the file, at most so many. At a terminal, says first that `program` reads.
@@ -92,6 +116,7 @@ impl Source {
                 say_at_a_terminal(rt, program)?;
                 Ok(first_bytes(rt.alloc(), rt.stdin(), most)?)
             }
+            Opened::File(name) if name.is_empty() => Err(Unread::NoName),
             Opened::File(name) => {
                 let file = File::open(rt, name.as_str())?;
                 Ok(first_bytes(rt.alloc(), file, most)?)
@@ -101,17 +126,39 @@ impl Source {
     }
 
     /// The bytes of a file that has at most so many.
-    pub fn read_whole(
-        &self,
-        rt: &HostRuntime,
-        program: &str,
-        most: u32,
-    ) -> Result<Vec<u8>, Unread> {
+    pub fn read_whole(&self, rt: &HostRuntime, program: &str, most: u32) -> Result<Vec<u8>, Unread>
+        ensures { IfOk result (λ bytes. vec_len bytes ≤ most) }
+    {
         let bytes = self.read(rt, program, u64::from(most) + 1)?;
         if bytes.len() as u64 > u64::from(most) {
             return Err(Unread::TooLong(most));
         }
         Ok(bytes)
+    }
+}
+
+impl Source {
+    /// What is said where the file is of no use: its name, and what is wrong with it, which may quote the file.
+    pub fn fault<D: Display + Drop>(&self, alloc: Global, wrong: D) -> Failure {
+        self.sentence(alloc, wrong)
+            .map_or(Failure::Memory, Failure::Said)
+    }
+
+    fn sentence<D: Display + Drop>(&self, alloc: Global, wrong: D) -> Result<String, AllocError> {
+        let wrong = format!(in alloc; "{wrong}")?;
+        let wrong = one_line(alloc, wrong.as_bytes())?;
+        let name = self.shown.as_str();
+        format!(in alloc; "{name}: {wrong}")
+    }
+
+    /// The text of a file that has at most so many bytes.
+    pub fn read_text(&self, rt: &HostRuntime, program: &str, most: u32) -> Result<String, Failure> {
+        let alloc = rt.alloc();
+        let bytes = self
+            .read_whole(rt, program, most)
+            .map_err(|unread| self.fault(alloc, unread))?;
+        let text = text_of(bytes.as_slice()).map_err(|unread| self.fault(alloc, unread))?;
+        Ok(String::from_str(alloc, text)?)
     }
 }
 

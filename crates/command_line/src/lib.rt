@@ -5,4 +5,4 @@
 pub mod arguments;
 pub mod endings;
 pub mod files;
-pub mod lines;
+pub mod names;

@@ -1,6 +1,6 @@
 use Rattle.std.proofs.Common.{◌≡◌, ◌++◌, string_bytes, flat_map, take}
-use Rattle.command_line.specs.Lines.{byte_shown}
-use Rattle.command_line.proofs.lines.push_bytes.Given as goal
+use Rattle.command_line.specs.Names.{byte_shown}
+use Rattle.command_line.proofs.names.push_bytes.Given as goal
 
 abbrev pub invariant-loop-byte : goal.invariant-loop-byte
 invariant-loop-byte l =

@@ -1,8 +1,8 @@
 use Rattle.std.proofs.Common.{◌++◌, string_bytes, flat_map, sym, ap, ◌∙◌, map-id}
 use Rattle.std.proofs.lemmas.Iterator.{YieldsList-from_chars}
 use Rattle.std.proofs.lemmas.Iterator.Consumers.{YieldsList-end}
-use Rattle.command_line.specs.Lines.{char_shown}
-use Rattle.command_line.proofs.lines.push_chars.Goals as goal
+use Rattle.command_line.specs.Names.{char_shown}
+use Rattle.command_line.proofs.names.push_chars.Goals as goal
 
 pub returns : goal.returns
 returns c =

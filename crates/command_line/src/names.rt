@@ -1,8 +1,8 @@
 //! A name or a text of the user's on one line, and the bytes that such a line stands for.
-ghost use Rattle.std.specs.Prelude.{◌≡◌, ◌<◌, IfOk, OnOk, ◌++◌, string_bytes, flat_map};
+ghost use Rattle.std.specs.Prelude.{◌≡◌, ◌<◌, IfOk, IfSome, OnOk, ◌++◌, string_bytes, flat_map};
 ghost use Rattle.std.specs.Str.{chars};
 ghost use Rattle.std.specs.Char.{digit_char};
-ghost use Rattle.command_line.specs.Lines.{byte_shown, char_shown, hex_value, is_hidden, one_line};
+ghost use Rattle.command_line.specs.Names.{byte_shown, char_shown, hex_value, is_hidden, one_line};
 
 use std::alloc::{AllocError, Global};
 
@@ -158,8 +158,8 @@ fn next_byte(line: &[u8]) -> Option<(u8, &[u8])> {
     }
 }
 
-/// The bytes that a line of [`one_line`] stands for.
-pub fn read_back(alloc: Global, line: &str) -> Result<Vec<u8>, AllocError> {
+/// The bytes of a line, each as it is or behind a backslash.
+fn bytes_of(alloc: Global, line: &str) -> Result<Vec<u8>, AllocError> {
     let mut bytes = Vec::new(alloc);
     let mut left = line.as_bytes();
     for _ in 0..left.len() {
@@ -171,3 +171,19 @@ pub fn read_back(alloc: Global, line: &str) -> Result<Vec<u8>, AllocError> {
     }
     Ok(bytes)
 }
+
+/// The bytes that a line stands for; none for a line that [`one_line`] never writes.
+pub fn read_back(alloc: Global, line: &str) -> Result<Option<Vec<u8>>, AllocError>
+    ensures { IfOk result (λ read. IfSome read (λ name. one_line name.items ≡ line.now)) }
+{
+    let name = bytes_of(alloc, line)?;
+    let again = one_line(alloc, name.as_slice())?;
+    Ok(if again.as_str() == line {
+        Some(name)
+    } else {
+        None
+    })
+}
+
+#[cfg(test)]
+mod tests;

@@ -3,7 +3,7 @@ use Rattle.std.specs.Prelude.{◌≡◌, ℕ, ◌+◌, ◌-◌, ◌*◌, ◌/◌
 use Rattle.std.specs.List.{list_any}
 use Rattle.std.specs.Str.{chars, is_utf8}
 use Rattle.std.specs.Char.{digit_value, digit_char}
-use Rattle.command_line.specs.declared.lines.TheConstants.{HIDDEN}
+use Rattle.command_line.specs.declared.names.TheConstants.{HIDDEN}
 
 -- a byte as it is where it is ASCII that prints, else behind a backslash: `\n`, `\t`, `\\`, or `\x` and two digits
 abbrev pub byte_shown : ℕ → List ℕ

@@ -1,6 +1,6 @@
 use Rattle.std.proofs.Common.{◌≡◌, ◌++◌, string_bytes, flat_map}
-use Rattle.command_line.specs.Lines.{char_shown}
-use Rattle.command_line.proofs.lines.push_chars.Given as goal
+use Rattle.command_line.specs.Names.{char_shown}
+use Rattle.command_line.proofs.names.push_chars.Given as goal
 
 abbrev pub invariant-loop-c : goal.invariant-loop-c
 invariant-loop-c l =
