@@ -126,7 +126,7 @@ def without_numbers(text):
 def sort_of(ran):
     """How a run ended, in a few words."""
     if ran.complaint:
-        return "at fault: " + without_numbers(ran.complaint.split(":")[1])
+        return "at fault: " + without_numbers(ran.complaint.split(":")[2])
     return ran.out.rstrip("\n").split("\n")[-1]
 
 

@@ -28,7 +28,7 @@ const SCRIPT_BYTES: u32 = 1_048_576;
 fn run(rt: &HostRuntime) -> Result<ExitCode, Failure> {
     let words = words(rt, PROGRAM)?;
     let matches = command(rt.alloc())?.try_get_matches_from(words.as_slice())?;
-    let source = only_source(rt.alloc(), &matches, "FILE")?;
+    let source = only_source(rt.alloc(), matches.get_str("FILE"))?;
     let text = source.read_text(rt, PROGRAM, SCRIPT_BYTES)?;
     let mut desk = Desk::new(rt);
     for pile in &piles(rt.alloc(), text.as_str())? {

@@ -2,7 +2,7 @@
 //! cannot be read.
 ghost use Rattle.std.specs.Prelude.{◌≡◌, ◌≢◌, ◌≤◌, IfOk, IfSome, take, string_bytes, vec_len, codes, MatchResult};
 ghost use Rattle.command_line.specs.Names.{one_line};
-ghost use Rattle.command_line.specs.Files.{Opens, IsNamedBy};
+ghost use Rattle.command_line.specs.Files.{Opens, IsShownAs};
 ghost use Rattle.std.specs.Str.{IsUtf8};
 
 use crate::endings::Failure;
@@ -93,9 +93,7 @@ impl Source {
     /// What an argument names, which is given on one line: standard input for `-`, else a file. A word that no
     /// argument has on one line names a file that cannot be opened.
     pub fn of_word(alloc: Global, word: &str) -> Result<Source, AllocError>
-        ensures input { IfOk result (λ s. word.now ≡ codes "-" → s.opened ≡ Opened.Input) }
-        ensures file { IfOk result (λ s. word.now ≢ codes "-" → IsNamedBy word.now s.opened) }
-        ensures shown { IfOk result (λ s. word.now ≢ codes "-" → string_bytes s.shown ≡ word.now) }
+        ensures { IfOk result (IsShownAs word.now) }
     {
         if word == "-" {
             return Source::input(alloc);

@@ -43,7 +43,7 @@ fn run(rt: &HostRuntime) -> Result<ExitCode, Failure> {
     let alloc = rt.alloc();
     let words = words(rt, PROGRAM)?;
     let matches = command(alloc)?.try_get_matches_from(words.as_slice())?;
-    let source = only_source(alloc, &matches, "FILE")?;
+    let source = only_source(alloc, matches.get_str("FILE"))?;
     let text = source.read_text(rt, PROGRAM, FILE_BYTES)?;
     let day = Day::read(alloc, text.as_str()).map_err(|error| source.fault(alloc, error))?;
     let net = net_of(&day).map_err(|error| source.fault(alloc, error))?;

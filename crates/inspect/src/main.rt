@@ -41,7 +41,11 @@ fn show<'a, N: Net + TryFrom<&'a [u8], Error = Refusal> + Drop>(
 
 /// Shows one file, maybe under its name; true where it is accepted.
 fn inspect(rt: &HostRuntime, make: &str, source: &Source, titled: bool) -> Result<bool, Failure> {
-    let most = if make == "grid" { GRID_BYTES } else { CHAINED_BYTES };
+    let most = if make == "grid" {
+        GRID_BYTES
+    } else {
+        CHAINED_BYTES
+    };
     let name = source.shown.as_str();
     let file = match source.read(rt, PROGRAM, most) {
         Ok(file) => file,
@@ -73,7 +77,7 @@ fn run(rt: &HostRuntime) -> Result<ExitCode, Failure> {
     let words = words(rt, PROGRAM)?;
     let matches = command(rt.alloc())?.try_get_matches_from(words.as_slice())?;
     let make = matches.get_str("MAKE").unwrap_or("");
-    let mut sources = sources(rt.alloc(), &matches, "FILE")?;
+    let mut sources = sources(rt.alloc(), matches.get_strs("FILE").unwrap_or(&[]))?;
     if sources.is_empty() {
         sources.push(Source::input(rt.alloc())?)?;
     }

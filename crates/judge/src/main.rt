@@ -30,7 +30,7 @@ fn judge_asked<W: Write + Drop>(
     if let Some(list) = matches.get_str("named0") {
         return name_lists::judge_named(verdicts, &Source::of_word(rt.alloc(), list)?);
     }
-    let sources = sources(rt.alloc(), &matches, "FILE")?;
+    let sources = sources(rt.alloc(), matches.get_strs("FILE").unwrap_or(&[]))?;
     if sources.is_empty() {
         return verdicts.judge_input();
     }

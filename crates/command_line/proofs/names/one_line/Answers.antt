@@ -1,7 +1,5 @@
-use Rattle.std.proofs.Common.{◌≡◌, ◌++◌, IfOk, string_bytes, flat_map, true, false, sym, ap, ◌∙◌, rules}
-use Rattle.std.specs.Str.{chars, IsUtf8, is_utf8}
+use Rattle.std.proofs.Common.{rules}
 use Rattle.std.proofs.lemmas.Str.{is_utf8-from_IsUtf8, IsUtf8-from_is_utf8}
-use Rattle.command_line.specs.Names.{byte_shown, char_shown, one_line}
 use Rattle.command_line.proofs.names.one_line.Goals as goal
 
 pub returns-in-Ok : goal.returns-in-Ok
