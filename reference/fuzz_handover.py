@@ -11,12 +11,12 @@ import random
 import subprocess
 import sys
 from collections import Counter
-from pathlib import Path
 from typing import NamedTuple
 
 import run_handover
+from built import built
 
-BUILT = Path(__file__).resolve().parent.parent / "crates" / "handover" / "out" / "handover"
+BUILT = built("handover")
 WORDS = ("0", "1", "x", "", "-1", "+2", "999", "70000", "5000000000", "at", "exact", "fire", "#", ",")
 
 
