@@ -17,7 +17,6 @@ use options::{PROGRAM, command};
 use refusals::Refusal;
 use script::{Line, Load, Pile, piles};
 use slot_board::SlotBoard;
-use std::io;
 use std::process::ExitCode;
 
 type FourLayers = Under<Under<Under<Under<Full>>>>;
@@ -37,7 +36,7 @@ fn run(rt: &HostRuntime) -> Result<ExitCode, Failure> {
     Ok(ExitCode::SUCCESS)
 }
 
-fn main(rt: HostRuntime) -> io::Result<ExitCode> {
+fn main(rt: HostRuntime) -> ExitCode {
     end(&rt, PROGRAM, run(&rt))
 }
 

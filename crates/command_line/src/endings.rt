@@ -2,6 +2,7 @@
 ghost use Rattle.std.specs.Prelude.{◌≡◌};
 
 use std::alloc::{AllocError, AllocFailed};
+use std::fmt::Display;
 use std::io;
 use std::process::ExitCode;
 use thiserror::Error;
@@ -50,38 +51,49 @@ impl<T: Drop> From<AllocFailed<T>> for Failure {
     }
 }
 
-/// Says why a program ends early, and gives its status: 2 where the command line is not understood; 0 for help, and
-/// where nobody reads what it prints any more; else 1.
-fn end_early(rt: &HostRuntime, program: &str, failure: &Failure) -> io::Result<ExitCode> {
-    match failure {
-        Failure::Options(error) => {
-            error.print(rt)?;
-            Ok(ExitCode::from(if error.use_stderr() { MISUSED } else { 0 }))
-        }
-        Failure::Output(error) if error.kind() == io::ErrorKind::BrokenPipe => {
-            Ok(ExitCode::SUCCESS)
-        }
-        Failure::InputTwice => {
-            eprintln!(rt; "{program}: {failure}")?;
-            Ok(ExitCode::from(MISUSED))
-        }
-        _ => {
-            eprintln!(rt; "{program}: {failure}")?;
-            Ok(ExitCode::FAILURE)
-        }
+/// Says something on standard error, on a line of its own. Where that cannot be written, nobody is there to be told,
+/// and the work goes on.
+pub fn say<D: Display + Drop>(rt: &HostRuntime, program: &str, words: D) {
+    let _ = eprintln!(rt; "{program}: {words}");
+}
+
+/// The status where what a program prints cannot be written: 0 where nobody reads it any more, else 1, after words.
+fn after_output(rt: &HostRuntime, program: &str, error: &io::Error) -> ExitCode {
+    if error.kind() == io::ErrorKind::BrokenPipe {
+        return ExitCode::SUCCESS;
+    }
+    say(
+        rt,
+        program,
+        format_args!("what it prints cannot be written: {error}"),
+    );
+    ExitCode::FAILURE
+}
+
+/// Prints what the parser of options says: help, with the status 0, or a mistake with 2.
+fn after_options(rt: &HostRuntime, program: &str, said: &clap::Error) -> ExitCode {
+    match said.print(rt) {
+        _ if said.use_stderr() => ExitCode::from(MISUSED),
+        Ok(()) => ExitCode::SUCCESS,
+        Err(error) => after_output(rt, program, &error),
     }
 }
 
 /// Ends a program: with the status that it came to, or after words on standard error that say why it ends early.
-pub fn end(
-    rt: &HostRuntime,
-    program: &str,
-    ended: Result<ExitCode, Failure>,
-) -> io::Result<ExitCode>
-    ensures { (status : _) → ended ≡ Ok status → result ≡ Ok status }
+pub fn end(rt: &HostRuntime, program: &str, ended: Result<ExitCode, Failure>) -> ExitCode
+    ensures { (status : _) → ended ≡ Ok status → result ≡ status }
 {
     match ended {
-        Ok(status) => Ok(status),
-        Err(failure) => end_early(rt, program, &failure),
+        Ok(status) => status,
+        Err(Failure::Options(said)) => after_options(rt, program, &said),
+        Err(Failure::Output(error)) => after_output(rt, program, &error),
+        Err(Failure::InputTwice) => {
+            say(rt, program, Failure::InputTwice);
+            ExitCode::from(MISUSED)
+        }
+        Err(failure) => {
+            say(rt, program, failure);
+            ExitCode::FAILURE
+        }
     }
 }

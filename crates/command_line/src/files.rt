@@ -5,7 +5,7 @@ ghost use Rattle.command_line.specs.Names.{one_line};
 ghost use Rattle.command_line.specs.Files.{Opens, IsShownAs};
 ghost use Rattle.std.specs.Str.{IsUtf8};
 
-use crate::endings::Failure;
+use crate::endings::{Failure, say};
 use crate::names::{one_line, read_back};
 use std::alloc::{AllocError, Global};
 use std::fmt::Display;
@@ -111,7 +111,7 @@ impl Source {
     pub fn read(&self, rt: &HostRuntime, program: &str, most: u64) -> Result<Vec<u8>, Unread> {
         match &self.opened {
             Opened::Input => {
-                say_at_a_terminal(rt, program)?;
+                say_at_a_terminal(rt, program);
                 Ok(first_bytes(rt.alloc(), rt.stdin(), most)?)
             }
             Opened::File(name) if name.is_empty() => Err(Unread::NoName),
@@ -161,13 +161,14 @@ impl Source {
 }
 
 /// Says what is read where standard input is a terminal, which gives no sign of waiting.
-fn say_at_a_terminal(rt: &HostRuntime, program: &str) -> io::Result<()> {
+fn say_at_a_terminal(rt: &HostRuntime, program: &str) {
     if rt.stdin().is_terminal() {
-        eprintln!(rt;
-            "{program}: reads standard input, here what you type; Ctrl-D at the start of a line ends it"
-        )?;
+        say(
+            rt,
+            program,
+            "reads standard input, here what you type; Ctrl-D at the start of a line ends it",
+        );
     }
-    Ok(())
 }
 
 /// The first bytes that a reader gives, at most so many.

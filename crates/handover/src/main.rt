@@ -20,7 +20,6 @@ use options::{PROGRAM, command};
 use piles::{Pile, first_board};
 use report::{Outcome, show};
 use slot_board::SlotBoard;
-use std::io;
 use std::process::ExitCode;
 
 /// How long a hand-over file may be: 1 MiB.
@@ -56,6 +55,6 @@ fn run(rt: &HostRuntime) -> Result<ExitCode, Failure> {
     }
 }
 
-fn main(rt: HostRuntime) -> io::Result<ExitCode> {
+fn main(rt: HostRuntime) -> ExitCode {
     end(&rt, PROGRAM, run(&rt))
 }

@@ -5,7 +5,7 @@ mod options;
 mod table;
 
 use command_line::arguments::{sources, words};
-use command_line::endings::{Failure, end};
+use command_line::endings::{Failure, end, say};
 use command_line::files::Source;
 use nets::chained::ChainedNet;
 use nets::grid::GridNet;
@@ -50,7 +50,7 @@ fn inspect(rt: &HostRuntime, make: &str, source: &Source, titled: bool) -> Resul
     let file = match source.read(rt, PROGRAM, most) {
         Ok(file) => file,
         Err(unread) => {
-            eprintln!(rt; "{PROGRAM}: {name}: {unread}")?;
+            say(rt, PROGRAM, format_args!("{name}: {unread}"));
             return Ok(false);
         }
     };
@@ -88,6 +88,6 @@ fn run(rt: &HostRuntime) -> Result<ExitCode, Failure> {
     }
 }
 
-fn main(rt: HostRuntime) -> io::Result<ExitCode> {
+fn main(rt: HostRuntime) -> ExitCode {
     end(&rt, PROGRAM, run(&rt))
 }

@@ -51,6 +51,6 @@ fn run(rt: &HostRuntime) -> Result<ExitCode, Failure> {
     }
 }
 
-fn main(rt: HostRuntime) -> io::Result<ExitCode> {
+fn main(rt: HostRuntime) -> ExitCode {
     end(&rt, PROGRAM, run(&rt))
 }

@@ -1,6 +1,6 @@
 //! What is said of each sheet.
 use crate::options::PROGRAM;
-use command_line::endings::Failure;
+use command_line::endings::{Failure, say};
 use command_line::files::{Source, Unread};
 use sheet_lines::line_of;
 use std::io::{BufWriter, Write};
@@ -57,7 +57,8 @@ impl<'a, W: Write + Drop> Verdicts<'a, W> {
         self.all_read = false;
         self.out.flush()?;
         let name = source.shown.as_str();
-        Ok(eprintln!(self.rt; "{PROGRAM}: {name}: {unread}")?)
+        say(self.rt, PROGRAM, format_args!("{name}: {unread}"));
+        Ok(())
     }
 
     /// Writes what is not written yet, and says whether each file was read.
