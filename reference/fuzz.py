@@ -14,11 +14,11 @@ from collections import Counter
 from pathlib import Path
 from typing import List, NamedTuple, Optional
 
+from built import built
 from judge import judge, verdict
 from make_net_table import Chance
 from random_sheets import any_sheet
 
-BUILT = Path(__file__).resolve().parent.parent / "crates" / "judge" / "out" / "judge"
 BATCH = 400
 MOST_SECONDS = 300  # for one batch
 VERDICTS = ["ok", *(f"no {number}" for number in (*range(1, 14), 19))]
@@ -90,7 +90,7 @@ def main() -> int:
     words = argparse.ArgumentParser(description=__doc__.split("\n")[0])
     words.add_argument("number", type=int, metavar="N")
     words.add_argument("seed", type=int, nargs="?", default=1, metavar="SEED")
-    words.add_argument("--program", type=Path, default=BUILT, metavar="PATH")
+    words.add_argument("--program", type=Path, default=built("judge"), metavar="PATH")
     asked = words.parse_args()
     if not asked.program.is_file():
         print(f"there is no program {asked.program}; ./zaldrum judge builds it", file=sys.stderr)

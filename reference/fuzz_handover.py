@@ -11,12 +11,12 @@ import random
 import subprocess
 import sys
 from collections import Counter
-from pathlib import Path
 from typing import NamedTuple
 
 import run_handover
+from built import built
 
-BUILT = Path(__file__).resolve().parent.parent / "crates" / "handover" / "out" / "handover"
+BUILT = built("handover")
 WORDS = ("0", "1", "x", "", "-1", "+2", "999", "70000", "5000000000", "at", "exact", "fire", "#", ",")
 
 
@@ -126,7 +126,7 @@ def without_numbers(text):
 def sort_of(ran):
     """How a run ended, in a few words."""
     if ran.complaint:
-        return "at fault: " + without_numbers(ran.complaint.split(":")[1])
+        return "at fault: " + without_numbers(ran.complaint.split(":")[2])
     return ran.out.rstrip("\n").split("\n")[-1]
 
 

@@ -24,7 +24,7 @@ class NotUnderstood(Exception):
 
 
 def number(word, most):
-    if not re.fullmatch(r"\+?[0-9]+", word) or int(word) > most:
+    if not re.fullmatch("[0-9]+", word) or int(word) > most:
         raise NotUnderstood
     return int(word)
 

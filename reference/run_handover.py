@@ -48,7 +48,7 @@ def told(refusal):
 
 
 def number(word, most):
-    if not re.fullmatch(r"\+?[0-9]+", word) or int(word) > most:
+    if not re.fullmatch("[0-9]+", word) or int(word) > most:
         raise Unfit(f"'{word}' is no number of 0 to {most}")
     return int(word)
 
@@ -275,7 +275,7 @@ def run(text):
     try:
         return 0 if carry_out(read(text)) else 1
     except Unfit as unfit:
-        print(f"handover: {unfit}", file=sys.stderr)
+        print(f"zaldrum handover: standard input: {unfit}", file=sys.stderr)
         return 1
 
 

@@ -1,6 +1,8 @@
 //! The desk: what was last shown of the board, and what is printed of a line.
 use boards::board::{Board, PLACES};
 use calls::{Answer, Call, all_counts, perform};
+use command_line::endings::Failure;
+use command_line::names::one_line;
 use std::io;
 
 /// The longest bar of a picture.
@@ -22,9 +24,18 @@ impl<'a> Desk<'a> {
         }
     }
 
+    /// Prints a line of the script.
+    fn echo(&self, line: &str) -> Result<(), Failure> {
+        let line = one_line(self.rt.alloc(), line.as_bytes())?;
+        println!(self.rt; "> {line}")?;
+        Ok(())
+    }
+
     /// Prints a line with the words.
-    pub(crate) fn say(&self, line: &str, words: &str) -> io::Result<()> {
-        println!(self.rt; "> {line}\n  {words}")
+    pub(crate) fn say(&self, line: &str, words: &str) -> Result<(), Failure> {
+        self.echo(line)?;
+        println!(self.rt; "  {words}")?;
+        Ok(())
     }
 
     /// Makes the call of a line, and prints the line with its answer and what it changed.
@@ -33,7 +44,7 @@ impl<'a> Desk<'a> {
         line: &str,
         board: &mut B,
         call: Call,
-    ) -> anyhow::Result<()> {
+    ) -> Result<(), Failure> {
         let answer = perform(board, call);
         self.show(line, board, answer)
     }
@@ -44,8 +55,8 @@ impl<'a> Desk<'a> {
         line: &str,
         board: &B,
         answer: Answer,
-    ) -> anyhow::Result<()> {
-        println!(self.rt; "> {line}")?;
+    ) -> Result<(), Failure> {
+        self.echo(line)?;
         print_answer(self.rt, answer)?;
         let counts = all_counts(board);
         for (place, (before, after)) in self.counts.iter().zip(&counts).enumerate() {
@@ -74,9 +85,9 @@ fn print_answer(rt: &HostRuntime, answer: Answer) -> io::Result<()> {
 }
 
 /// Prints a place whose count changed, with a bar for its blocks.
-fn print_change(rt: &HostRuntime, place: usize, before: u32, after: u32) -> anyhow::Result<()> {
+fn print_change(rt: &HostRuntime, place: usize, before: u32, after: u32) -> Result<(), Failure> {
     let space = if after > 0 { " " } else { "" };
-    let bar = "#".repeat(rt.alloc(), usize::try_from(after.min(WIDEST))?)?;
+    let bar = "#".repeat(rt.alloc(), after.min(WIDEST) as usize)?;
     let more = if after > WIDEST { "+" } else { "" };
     println!(rt; "  place {place}: {before} -> {after}{space}{bar}{more}")?;
     Ok(())

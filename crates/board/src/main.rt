@@ -3,31 +3,45 @@
 
 mod desk;
 mod on_pile;
+mod options;
 mod script;
 
 use boards::board::Board;
 use boards::count_board::CountBoard;
 use calls::Answer;
+use command_line::arguments::{only_source, words};
+use command_line::endings::{Failure, end};
 use desk::Desk;
 use on_pile::{Full, OnPile, Under};
+use options::{PROGRAM, command};
 use refusals::Refusal;
 use script::{Line, Load, Pile, piles};
 use slot_board::SlotBoard;
-use std::io;
+use std::process::ExitCode;
 
 type FourLayers = Under<Under<Under<Under<Full>>>>;
 
-fn main(rt: HostRuntime) -> anyhow::Result<()> {
-    let text = io::read_to_string(rt.alloc(), rt.stdin())?;
-    let mut desk = Desk::new(&rt);
+/// How long a script may be: 1 MiB.
+const SCRIPT_BYTES: u32 = 1_048_576;
+
+fn run(rt: &HostRuntime) -> Result<ExitCode, Failure> {
+    let words = words(rt, PROGRAM)?;
+    let matches = command(rt.alloc())?.try_get_matches_from(words.as_slice())?;
+    let source = only_source(rt.alloc(), matches.get_str("FILE"))?;
+    let text = source.read_text(rt, PROGRAM, SCRIPT_BYTES)?;
+    let mut desk = Desk::new(rt);
     for pile in &piles(rt.alloc(), text.as_str())? {
         make(&mut desk, pile)?;
     }
-    Ok(())
+    Ok(ExitCode::SUCCESS)
+}
+
+fn main(rt: HostRuntime) -> ExitCode {
+    end(&rt, PROGRAM, run(&rt))
 }
 
 /// Loads the board of a pile, if a line does, and makes the calls of its lines.
-fn make(desk: &mut Desk<'_>, pile: &Pile<'_>) -> anyhow::Result<()> {
+fn make(desk: &mut Desk<'_>, pile: &Pile<'_>) -> Result<(), Failure> {
     let lines = pile.lines.as_slice();
     match &pile.load {
         None => FourLayers::run(desk, lines, CountBoard::new()),
@@ -51,7 +65,7 @@ fn on_board<B: Board + Drop>(
     lines: &[Line<'_>],
     board: B,
     done: Result<(), Refusal>,
-) -> anyhow::Result<()> {
+) -> Result<(), Failure> {
     desk.show(load, &board, Answer::from(done))?;
     FourLayers::run(desk, lines, board)
 }

@@ -3,6 +3,7 @@ use crate::desk::Desk;
 use crate::script::{Asked, Line};
 use boards::board::Board;
 use calls::Answer;
+use command_line::endings::Failure;
 use layers::allowance::Allowance;
 use layers::renaming::Renaming;
 use std::marker::PhantomData;
@@ -15,7 +16,7 @@ pub(crate) trait OnPile {
         desk: &mut Desk<'_>,
         lines: &[Line<'_>],
         board: B,
-    ) -> anyhow::Result<()>;
+    ) -> Result<(), Failure>;
 }
 
 /// A pile that takes no more layers.
@@ -29,7 +30,7 @@ impl OnPile for Full {
         desk: &mut Desk<'_>,
         lines: &[Line<'_>],
         mut board: B,
-    ) -> anyhow::Result<()> {
+    ) -> Result<(), Failure> {
         for line in lines {
             match &line.asked {
                 Some(Asked::Call(call)) => desk.call(line.code, &mut board, *call)?,
@@ -46,7 +47,7 @@ impl<Above: OnPile> OnPile for Under<Above> {
         desk: &mut Desk<'_>,
         lines: &[Line<'_>],
         mut board: B,
-    ) -> anyhow::Result<()> {
+    ) -> Result<(), Failure> {
         let mut left = lines.iter();
         for line in left.by_ref() {
             match &line.asked {

@@ -35,7 +35,8 @@ pub(crate) struct Pile<'a> {
     pub(crate) lines: Vec<Line<'a>>,
 }
 
-/// The piles of a script; a line that loads a board begins the next one.
+/// The piles of a script; a line that loads a board begins the next one. A number is digits alone, but `parse` takes a
+/// sign before them, so a line with one is not understood.
 pub(crate) fn piles(alloc: Global, text: &str) -> Result<Vec<Pile<'_>>, AllocError> {
     let mut piles = Vec::new(alloc);
     let mut pile = Pile {
@@ -45,7 +46,10 @@ pub(crate) fn piles(alloc: Global, text: &str) -> Result<Vec<Pile<'_>>, AllocErr
     for line in text.lines() {
         let code = code_of(line);
         let words: Vec<&str> = code.split_whitespace().collect(alloc)?;
-        if let Some(load) = understood(read_load(alloc, words.as_slice()))? {
+        let signed = words.iter().any(|word| word.starts_with('+'));
+        if signed {
+            pile.lines.push(Line { code, asked: None })?;
+        } else if let Some(load) = understood(read_load(alloc, words.as_slice()))? {
             let next = Pile {
                 load: Some((code, load)),
                 lines: Vec::new(alloc),

@@ -5,45 +5,56 @@ mod day;
 mod faults;
 mod lines;
 mod net_file;
+mod options;
 mod piles;
 mod report;
 mod words;
 
+use command_line::arguments::{only_source, words};
+use command_line::endings::{Failure, end};
 use day::Day;
 use faults::Unfit;
 use handovers::hand_over::hand_over;
 use nets::grid::GridNet;
-use nets::net::Net;
-use piles::first_board;
+use options::{PROGRAM, command};
+use piles::{Pile, first_board};
 use report::{Outcome, show};
-use std::io;
+use slot_board::SlotBoard;
 use std::process::ExitCode;
 
-/// Makes the calls of a day and its hand-over, and prints what was said and what is left.
-fn make<N: Net + Drop>(rt: &HostRuntime, day: &Day<'_>, net: N) -> anyhow::Result<Outcome> {
-    let start = day.start()?;
-    let first = first_board(start)?;
-    let second = day.second.with(start)?;
-    let memory = usize::from(day.sizes.order);
-    let ended = hand_over(rt.alloc(), net, first, second, day.calls.as_slice(), memory)?;
-    Ok(show(rt, day.asked.as_slice(), &ended)?)
-}
+/// How long a hand-over file may be: 1 MiB.
+const FILE_BYTES: u32 = 1_048_576;
 
-fn run(rt: &HostRuntime) -> anyhow::Result<Outcome> {
-    let text = io::read_to_string(rt.alloc(), rt.stdin())?;
-    let day = Day::read(rt.alloc(), text.as_str())?;
+/// The net of a day.
+fn net_of(day: &Day<'_>) -> anyhow::Result<GridNet> {
     let file = day.net_bytes()?;
-    let net = GridNet::try_from(file.as_slice()).map_err(Unfit::Net)?;
-    make(rt, &day, net)
+    Ok(GridNet::try_from(file.as_slice()).map_err(Unfit::Net)?)
 }
 
-fn main(rt: HostRuntime) -> io::Result<ExitCode> {
-    match run(&rt) {
-        Ok(Outcome::Agree) => Ok(ExitCode::SUCCESS),
-        Ok(_) => Ok(ExitCode::FAILURE),
-        Err(error) => {
-            eprintln!(rt; "handover: {error}")?;
-            Ok(ExitCode::FAILURE)
-        }
+/// The boards of a day and of its hand-over, with the start on both.
+fn boards_of(day: &Day<'_>) -> Result<(SlotBoard, Pile), Unfit> {
+    let start = day.start()?;
+    Ok((first_board(start)?, day.second.with(start)?))
+}
+
+/// Makes the calls of a day and its hand-over, and prints what was said and what is left.
+fn run(rt: &HostRuntime) -> Result<ExitCode, Failure> {
+    let alloc = rt.alloc();
+    let words = words(rt, PROGRAM)?;
+    let matches = command(alloc)?.try_get_matches_from(words.as_slice())?;
+    let source = only_source(alloc, matches.get_str("FILE"))?;
+    let text = source.read_text(rt, PROGRAM, FILE_BYTES)?;
+    let day = Day::read(alloc, text.as_str()).map_err(|error| source.fault(alloc, error))?;
+    let net = net_of(&day).map_err(|error| source.fault(alloc, error))?;
+    let (first, second) = boards_of(&day).map_err(|unfit| source.fault(alloc, unfit))?;
+    let memory = usize::from(day.sizes.order);
+    let ended = hand_over(alloc, net, first, second, day.calls.as_slice(), memory)?;
+    match show(rt, day.asked.as_slice(), &ended)? {
+        Outcome::Agree => Ok(ExitCode::SUCCESS),
+        Outcome::Differ | Outcome::Refused => Ok(ExitCode::FAILURE),
     }
+}
+
+fn main(rt: HostRuntime) -> ExitCode {
+    end(&rt, PROGRAM, run(&rt))
 }

@@ -4,6 +4,7 @@ ghost use Rattle.theory.specs.Laws.{AgreeBelow};
 
 use answers::{Cause, Finding};
 use boards::board::Board;
+use command_line::names::one_line;
 use handovers::hand_over::HandOver;
 use handovers::sitting_calls::{Answer, Done};
 use nets::net::Net;
@@ -99,6 +100,7 @@ pub(crate) fn show<N: Net, B: Board, C: Board>(
 /// Prints each call's line and what was said to it.
 fn show_calls(rt: &HostRuntime, asked: &[&str], said: &[Answer]) -> io::Result<()> {
     for (line, answer) in asked.iter().zip(said.iter()) {
+        let line = one_line(rt.alloc(), line.as_bytes())?;
         println!(rt; "> {line}")?;
         show_answer(rt, answer)?;
     }

@@ -36,11 +36,14 @@ pub(crate) fn words<'a>(alloc: Global, code: &'a str) -> Result<Vec<&'a str>, Al
         .collect(alloc)
 }
 
-/// A word as a number.
+/// A word as a number: digits alone, though `parse` takes a sign before them.
 pub(crate) fn number_of<'a, T: Number>(word: &'a str) -> Result<T, Fault<'a>>
 where
     T::Err: Drop,
 {
+    if word.starts_with('+') {
+        return Err(Fault::NoNumber(word, T::MOST));
+    }
     word.parse().map_err(|_| Fault::NoNumber(word, T::MOST))
 }
 

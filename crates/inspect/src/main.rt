@@ -1,29 +1,25 @@
-//! Shows what a net file means, or why it is refused.
+//! Shows what net files mean, or why they are refused.
 #![tactic(auto)]
 
+mod options;
 mod table;
 
-use anyhow::anyhow;
+use command_line::arguments::{sources, words};
+use command_line::endings::{Failure, end, say};
+use command_line::files::Source;
 use nets::chained::ChainedNet;
 use nets::grid::GridNet;
 use nets::net::Net;
+use options::{PROGRAM, command};
 use refusals::Refusal;
-use std::io::Read;
+use std::io;
 use std::process::ExitCode;
-use std::{env, fs, io};
 
-const USAGE: &str =
-    "usage: inspect grid|chained [FILE [grid|chained FILE]...]; a FILE of - is standard input";
+/// How much of a file is read: a byte more than any net of its make has. A longer one is refused for its length where
+/// its head is not refused before, and so are its first bytes, since no head tells so many.
+const GRID_BYTES: u64 = 8_323;
 
-/// The bytes of a file; those of standard input for `-`.
-fn bytes_of(rt: &HostRuntime, name: &str) -> anyhow::Result<Vec<u8>> {
-    if name != "-" {
-        return Ok(fs::read(rt, name)?);
-    }
-    let mut bytes = Vec::new(rt.alloc());
-    rt.stdin().read_to_end(&mut bytes)?;
-    Ok(bytes)
-}
+const CHAINED_BYTES: u64 = 4_481;
 
 /// Shows the net of a file, or why the file is refused; true where it is accepted.
 fn show<'a, N: Net + TryFrom<&'a [u8], Error = Refusal> + Drop>(
@@ -43,44 +39,55 @@ fn show<'a, N: Net + TryFrom<&'a [u8], Error = Refusal> + Drop>(
     }
 }
 
-/// Shows one file; true where it is accepted.
-fn inspect(rt: &HostRuntime, make: &str, name: &str) -> anyhow::Result<bool> {
-    let file = bytes_of(rt, name)?;
-    match make {
-        "grid" => Ok(show::<GridNet>(rt, make, file.as_slice())?),
-        "chained" => Ok(show::<ChainedNet>(rt, make, file.as_slice())?),
-        _ => Err(anyhow!(USAGE)),
-    }
-}
-
-/// Shows each file that is named after its make, and answers how many are refused.
-fn inspect_all(rt: &HostRuntime, words: &[String]) -> anyhow::Result<usize> {
-    let mut refused = 0usize;
-    for pair in words.chunks(2) {
-        let [make, name] = pair else {
-            return Err(anyhow!(USAGE));
-        };
-        if !inspect(rt, make.as_str(), name.as_str())? {
-            refused = refused.saturating_add(1);
+/// Shows one file, maybe under its name; true where it is accepted.
+fn inspect(rt: &HostRuntime, make: &str, source: &Source, titled: bool) -> Result<bool, Failure> {
+    let most = if make == "grid" {
+        GRID_BYTES
+    } else {
+        CHAINED_BYTES
+    };
+    let name = source.shown.as_str();
+    let file = match source.read(rt, PROGRAM, most) {
+        Ok(file) => file,
+        Err(unread) => {
+            say(rt, PROGRAM, format_args!("{name}: {unread}"));
+            return Ok(false);
         }
+    };
+    if titled {
+        println!(rt; "{name}:")?;
     }
-    Ok(refused)
-}
-
-/// Shows each file that the arguments name; true where all are accepted.
-fn run(rt: &HostRuntime) -> anyhow::Result<bool> {
-    let words: Vec<String> = env::args(rt)?.skip(1).collect(rt.alloc())?;
-    match words.as_slice() {
-        [] => Err(anyhow!(USAGE)),
-        [make] => inspect(rt, make.as_str(), "-"),
-        words => Ok(inspect_all(rt, words)? == 0),
+    if make == "grid" {
+        Ok(show::<GridNet>(rt, make, file.as_slice())?)
+    } else {
+        Ok(show::<ChainedNet>(rt, make, file.as_slice())?)
     }
 }
 
-fn main(rt: HostRuntime) -> anyhow::Result<ExitCode> {
-    if run(&rt)? {
+/// Shows each file, under its name where there are several; true where all are accepted.
+fn inspect_all(rt: &HostRuntime, make: &str, sources: &[Source]) -> Result<bool, Failure> {
+    let mut all = true;
+    for source in sources {
+        all = inspect(rt, make, source, sources.len() > 1)? && all;
+    }
+    Ok(all)
+}
+
+fn run(rt: &HostRuntime) -> Result<ExitCode, Failure> {
+    let words = words(rt, PROGRAM)?;
+    let matches = command(rt.alloc())?.try_get_matches_from(words.as_slice())?;
+    let make = matches.get_str("MAKE").unwrap_or("");
+    let mut sources = sources(rt.alloc(), matches.get_strs("FILE").unwrap_or(&[]))?;
+    if sources.is_empty() {
+        sources.push(Source::input(rt.alloc())?)?;
+    }
+    if inspect_all(rt, make, sources.as_slice())? {
         Ok(ExitCode::SUCCESS)
     } else {
         Ok(ExitCode::FAILURE)
     }
+}
+
+fn main(rt: HostRuntime) -> ExitCode {
+    end(&rt, PROGRAM, run(&rt))
 }

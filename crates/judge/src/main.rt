@@ -1,58 +1,56 @@
-//! Judges exam sheets: the one on standard input, or each file that is named.
+//! Judges exam sheets: of files that are named, of the files of a list, or the one on standard input.
 #![tactic(auto)]
 
-use anyhow::ensure;
-use sheet_lines::line_of;
-use std::io::{Read, Write};
-use std::{env, fs};
+mod name_lists;
+mod options;
+mod verdicts;
 
-/// Prints the line of a sheet.
-fn print_line(rt: &HostRuntime, sheet: &[u8]) -> anyhow::Result<()> {
-    let line = line_of(rt.alloc(), sheet)?;
-    Ok(rt.stdout().write_all(line.as_slice())?)
-}
+use command_line::arguments::{sources, words};
+use command_line::endings::{Failure, end};
+use command_line::files::Source;
+use options::{PROGRAM, command};
+use std::io;
+use std::io::{BufWriter, Write};
+use std::process::ExitCode;
+use verdicts::Verdicts;
 
-/// Prints the line of the sheet on standard input.
-fn judge_input(rt: &HostRuntime) -> anyhow::Result<()> {
-    let mut sheet = Vec::new(rt.alloc());
-    rt.stdin().read_to_end(&mut sheet)?;
-    print_line(rt, sheet.as_slice())
-}
+/// How many bytes of verdicts are written at once.
+const ROOM: usize = 65_536;
 
-/// Prints a file's name and the line of its sheet; says so where the file cannot be read, and answers
-/// whether it could.
-fn judge_file(rt: &HostRuntime, name: &str) -> anyhow::Result<bool> {
-    match fs::read(rt, name) {
-        Ok(sheet) => {
-            print!(rt; "{name}: ")?;
-            print_line(rt, sheet.as_slice())?;
-            Ok(true)
-        }
-        Err(error) => {
-            eprintln!(rt; "{name}: cannot be read: {error}")?;
-            Ok(false)
-        }
+/// Judges what the command line names, and says whether each file was read.
+fn judge_asked<W: Write + Drop>(
+    rt: &HostRuntime,
+    verdicts: &mut Verdicts<'_, W>,
+) -> Result<(), Failure> {
+    let words = words(rt, PROGRAM)?;
+    let matches = command(rt.alloc())?.try_get_matches_from(words.as_slice())?;
+    if let Some(list) = matches.get_str("files0") {
+        return name_lists::judge_files(verdicts, &Source::of_word(rt.alloc(), list)?);
     }
-}
-
-/// Judges each file that is named.
-fn judge_files(rt: &HostRuntime, names: &[String]) -> anyhow::Result<()> {
-    let mut unread = 0usize;
-    for name in names {
-        if !judge_file(rt, name.as_str())? {
-            unread = unread.saturating_add(1);
-        }
+    if let Some(list) = matches.get_str("named0") {
+        return name_lists::judge_named(verdicts, &Source::of_word(rt.alloc(), list)?);
     }
-    ensure!(unread == 0, "not every file could be read");
+    let sources = sources(rt.alloc(), matches.get_strs("FILE").unwrap_or(&[]))?;
+    if sources.is_empty() {
+        return verdicts.judge_input();
+    }
+    for source in &sources {
+        verdicts.judge(source)?;
+    }
     Ok(())
 }
 
-/// Judges what is named, or standard input where nothing is.
-fn main(rt: HostRuntime) -> anyhow::Result<()> {
-    let names: Vec<String> = env::args(&rt)?.skip(1).collect(rt.alloc())?;
-    if names.is_empty() {
-        judge_input(&rt)
+fn run(rt: &HostRuntime) -> Result<ExitCode, Failure> {
+    let out = BufWriter::with_capacity(rt.alloc(), ROOM, io::writer(rt))?;
+    let mut verdicts = Verdicts::new(rt, out);
+    judge_asked(rt, &mut verdicts)?;
+    if verdicts.end()? {
+        Ok(ExitCode::SUCCESS)
     } else {
-        judge_files(&rt, names.as_slice())
+        Ok(ExitCode::FAILURE)
     }
+}
+
+fn main(rt: HostRuntime) -> ExitCode {
+    end(&rt, PROGRAM, run(&rt))
 }
