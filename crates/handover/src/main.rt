@@ -11,7 +11,7 @@ mod words;
 
 use day::Day;
 use faults::Unfit;
-use handovers::hand_over::hand_over;
+use handovers::transcripts::transcribe;
 use nets::grid::GridNet;
 use nets::net::Net;
 use piles::first_board;
@@ -25,7 +25,7 @@ fn make<N: Net + Drop>(rt: &HostRuntime, day: &Day<'_>, net: N) -> anyhow::Resul
     let first = first_board(start)?;
     let second = day.second.with(start)?;
     let memory = usize::from(day.sizes.order);
-    let ended = hand_over(rt.alloc(), net, first, second, day.calls.as_slice(), memory)?;
+    let ended = transcribe(rt.alloc(), net, first, second, day.calls.as_slice(), memory)?;
     Ok(show(rt, day.asked.as_slice(), &ended)?)
 }
 

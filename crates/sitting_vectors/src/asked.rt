@@ -6,8 +6,8 @@ use std::alloc::Global;
 use std::num::ParseIntError;
 use std::str::FromStr;
 
-/// What a resume or a survey is given, and how long its memory is. `Request` of `handovers` has the same four
-/// fields, but how it makes a target is not public, and this program uses nothing else of `handovers`.
+/// What a resume or a survey is given, and how long its memory is. `OwnedRequest` of `handovers` has the same
+/// four fields, but how it makes a target is not public, and this program uses nothing else of `handovers`.
 #[derive(Drop)]
 pub(crate) struct Request {
     pub(crate) memory: usize,
