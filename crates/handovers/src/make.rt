@@ -33,7 +33,7 @@ pub fn make<N: Net, B: Board>(
 
 /// Makes the calls one after another, and says in the row, from its front, what was said to each. A call that is
 /// refused changes nothing, and the next one is made.
-pub fn make_all<N: Net, B: Board>(
+pub(crate) fn make_all<N: Net, B: Board>(
     sitting: &mut Sitting<N, B>,
     calls: &[Call<'_>],
     order: &mut [u16],

@@ -1,4 +1,4 @@
-//! The hand-over over lent memory, once on its happy path and once refused.
+//! A hand-over whose calls are a fire, a refused fire and a resume.
 use crate::hand_over::hand_over;
 use crate::sitting_calls::{Call, Done, Memory, Request};
 use answers::{Cause, Finding};
