@@ -11,9 +11,9 @@ use refusals::Refusal;
 /// What a resume or a survey is given: a tally, a target and how many entries its memory has.
 #[derive(Drop)]
 pub struct OwnedRequest {
-    /// The tally: how often each step is to be done, one number for each step of the net.
+    /// How often each step of the net is to be done, 0 to 65,535.
     pub tally: Vec<u16>,
-    /// The target's numbers, in blocks: one for each place of the net.
+    /// How many blocks each place of the net is to hold in the end.
     pub numbers: Vec<u32>,
     /// The byte of a `Kind`, any: what an unknown one is answered is a refusal like others.
     pub kind: u8,
