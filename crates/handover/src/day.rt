@@ -9,7 +9,7 @@ use crate::piles::SecondBoard;
 use crate::words::{code, words};
 use anyhow::anyhow;
 use checks::{DONE_LIMIT, FINDINGS_NEEDED};
-use handovers::sitting_calls::Call;
+use handovers::owned_calls::OwnedCall;
 use std::alloc::Global;
 
 /// How many entries memory has before a line says another number: as many as any order has, and as many
@@ -29,7 +29,7 @@ pub(crate) struct Day<'a> {
     pub(crate) sizes: Sizes,
     /// The lines of the calls; beside the calls and not with them, since a hand-over takes those alone.
     pub(crate) asked: Vec<&'a str>,
-    pub(crate) calls: Vec<Call>,
+    pub(crate) calls: Vec<OwnedCall>,
 }
 
 impl<'a> Day<'a> {
@@ -107,7 +107,7 @@ impl<'a> Day<'a> {
         once(&mut self.start, start, "start")
     }
 
-    fn add_call(&mut self, code: &'a str, call: Call) -> Result<(), Fault<'a>> {
+    fn add_call(&mut self, code: &'a str, call: OwnedCall) -> Result<(), Fault<'a>> {
         self.asked.push(code)?;
         self.calls.push(call)?;
         Ok(())

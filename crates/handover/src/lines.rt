@@ -3,7 +3,7 @@ use crate::faults::Fault;
 use crate::words::{number_of, numbers_of, only_number};
 use answers::Kind;
 use boards::board::LAST_PLACE;
-use handovers::sitting_calls::{Call, Request};
+use handovers::owned_calls::{OwnedCall, OwnedRequest};
 use std::alloc::Global;
 
 /// How many blocks a step puts down at a place.
@@ -31,7 +31,7 @@ pub(crate) enum Line {
     Spare(u32),
     Memory(u16),
     Findings(u16),
-    Call(Call),
+    Call(OwnedCall),
 }
 
 const STEP: &str = "step from P yields N at P, N at P, ..";
@@ -48,9 +48,9 @@ pub(crate) fn read<'a>(
         "step" => step(alloc, rest),
         "start" => Ok(Line::Start(numbers_of(alloc, rest)?)),
         "rename" => renaming(alloc, rest),
-        "fire" => Ok(Line::Call(Call::Fire(only_number(rest, "fire T")?))),
-        "resume" => Ok(Line::Call(Call::Resume(request(alloc, rest, sizes.order)?))),
-        "survey" => Ok(Line::Call(Call::Survey(request(alloc, rest, sizes.findings)?))),
+        "fire" => Ok(Line::Call(OwnedCall::Fire(only_number(rest, "fire T")?))),
+        "resume" => Ok(Line::Call(OwnedCall::Resume(request(alloc, rest, sizes.order)?))),
+        "survey" => Ok(Line::Call(OwnedCall::Survey(request(alloc, rest, sizes.findings)?))),
         _ => setting(first, rest),
     }
 }
@@ -99,11 +99,11 @@ fn yield_of<'a>(words: &[&'a str]) -> Result<Yield, Fault<'a>> {
 }
 
 /// A tally, and behind it a target with its kind.
-fn request<'a>(alloc: Global, words: &[&'a str], memory: u16) -> Result<Request, Fault<'a>> {
+fn request<'a>(alloc: Global, words: &[&'a str], memory: u16) -> Result<OwnedRequest, Fault<'a>> {
     let (tally, kind, row) = (0..words.len())
         .find_map(|end| parts_at(words, end))
         .ok_or(Fault::NoTarget)?;
-    Ok(Request {
+    Ok(OwnedRequest {
         tally: numbers_of(alloc, tally)?,
         numbers: numbers_of(alloc, row)?,
         kind: kind.into(),

@@ -14,7 +14,7 @@ use command_line::arguments::{only_source, words};
 use command_line::endings::{Failure, end};
 use day::Day;
 use faults::Unfit;
-use handovers::hand_over::hand_over;
+use handovers::transcripts::transcribe;
 use nets::grid::GridNet;
 use options::{PROGRAM, command};
 use piles::{Pile, first_board};
@@ -48,7 +48,7 @@ fn run(rt: &HostRuntime) -> Result<ExitCode, Failure> {
     let net = net_of(&day).map_err(|error| source.fault(alloc, error))?;
     let (first, second) = boards_of(&day).map_err(|unfit| source.fault(alloc, unfit))?;
     let memory = usize::from(day.sizes.order);
-    let ended = hand_over(alloc, net, first, second, day.calls.as_slice(), memory)?;
+    let ended = transcribe(alloc, net, first, second, day.calls.as_slice(), memory)?;
     match show(rt, day.asked.as_slice(), &ended)? {
         Outcome::Agree => Ok(ExitCode::SUCCESS),
         Outcome::Differ | Outcome::Refused => Ok(ExitCode::FAILURE),

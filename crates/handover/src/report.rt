@@ -5,8 +5,8 @@ ghost use Rattle.theory.specs.Laws.{AgreeBelow};
 use answers::{Cause, Finding};
 use boards::board::Board;
 use command_line::names::one_line;
-use handovers::hand_over::HandOver;
-use handovers::sitting_calls::{Answer, Done};
+use handovers::owned_calls::{OwnedAnswer, OwnedDone};
+use handovers::transcripts::Transcript;
 use nets::net::Net;
 use std::{fmt, io};
 
@@ -40,18 +40,18 @@ impl fmt::Display for InWords {
     }
 }
 
-fn show_answer(rt: &HostRuntime, answer: &Answer) -> io::Result<()> {
+fn show_answer(rt: &HostRuntime, answer: &OwnedAnswer) -> io::Result<()> {
     match answer {
         Err(refusal) => println!(rt; "  {refusal}"),
-        Ok(Done::Fired) => println!(rt; "  accepted"),
-        Ok(Done::Order(order)) if order.is_empty() => {
+        Ok(OwnedDone::Fired) => println!(rt; "  accepted"),
+        Ok(OwnedDone::Order(order)) if order.is_empty() => {
             println!(rt; "  accepted with no step to do")
         }
-        Ok(Done::Order(order)) => {
+        Ok(OwnedDone::Order(order)) => {
             let row = Row(order.as_slice());
             println!(rt; "  accepted in the order{row}")
         }
-        Ok(Done::Findings(findings)) => show_findings(rt, findings.as_slice()),
+        Ok(OwnedDone::Findings(findings)) => show_findings(rt, findings.as_slice()),
     }
 }
 
@@ -88,7 +88,7 @@ impl fmt::Display for Outcome {
 pub(crate) fn show<N: Net, B: Board, C: Board>(
     rt: &HostRuntime,
     asked: &[&str],
-    day: &HandOver<N, B, C>,
+    day: &Transcript<N, B, C>,
 ) -> io::Result<Outcome> {
     show_calls(rt, asked, day.said.as_slice())?;
     show_hand_over(rt, day)?;
@@ -98,7 +98,7 @@ pub(crate) fn show<N: Net, B: Board, C: Board>(
 }
 
 /// Prints each call's line and what was said to it.
-fn show_calls(rt: &HostRuntime, asked: &[&str], said: &[Answer]) -> io::Result<()> {
+fn show_calls(rt: &HostRuntime, asked: &[&str], said: &[OwnedAnswer]) -> io::Result<()> {
     for (line, answer) in asked.iter().zip(said.iter()) {
         let line = one_line(rt.alloc(), line.as_bytes())?;
         println!(rt; "> {line}")?;
@@ -110,7 +110,7 @@ fn show_calls(rt: &HostRuntime, asked: &[&str], said: &[Answer]) -> io::Result<(
 /// Prints the counters, what was said to the hand-over, and both markings.
 fn show_hand_over<N: Net, B: Board, C: Board>(
     rt: &HostRuntime,
-    day: &HandOver<N, B, C>,
+    day: &Transcript<N, B, C>,
 ) -> io::Result<()> {
     let net = day.second.net();
     let counters = Row(&day.done[..usize::from(net.steps())]);
@@ -138,7 +138,7 @@ fn show_markings<B: Board, C: Board>(
 }
 
 /// How a hand-over ended.
-fn outcome_of<N: Net, B: Board, C: Board>(day: &HandOver<N, B, C>) -> Outcome
+fn outcome_of<N: Net, B: Board, C: Board>(day: &Transcript<N, B, C>) -> Outcome
     ensures agree { result ≡ Outcome.Agree → AgreeBelow (N.meaning day.now.second.net).net.places (B.counts day.now.board) (C.counts day.now.second.board) }
     ensures differ { result ≡ Outcome.Differ → AgreeBelow (N.meaning day.now.second.net).net.places (B.counts day.now.board) (C.counts day.now.second.board) → ⊥ }
 {

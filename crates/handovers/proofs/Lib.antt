@@ -1,2 +1,4 @@
 pub mod Making
+pub mod Memories
 pub mod Replaying
+pub mod Performing

@@ -1,2 +1,5 @@
-pub mod Performed
+pub mod Made
+pub mod Memories
 pub mod HandedOver
+pub mod Performed
+pub mod Transcripts

@@ -2,5 +2,10 @@
 #![tactic(auto)]
 
 pub mod hand_over;
+pub mod make;
+pub mod owned_calls;
 mod perform;
 pub mod sitting_calls;
+#[cfg(test)]
+mod tests;
+pub mod transcripts;
