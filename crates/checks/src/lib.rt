@@ -32,7 +32,7 @@ pub struct Target<'a> {
 /// The kind of the target. Refused: `RowsUnfit`, unless there is one, the tally has a number for each step and the
 /// target one for each place.
 pub fn check_rows<N: Net>(net: &N, tally: &[u16], target: Target<'_>) -> Result<Kind, Refusal>
-    ensures { Checked (if rows_fit (N.meaning net.now).net tally.now (target_of target.entry.numbers.now target.entry.kind) then None else Some RowsUnfit) target.entry.kind result }
+    ensures { Checked (if rows_fit (N.net net.now) tally.now (target_of target.entry.numbers.now target.entry.kind) then None else Some RowsUnfit) target.entry.kind result }
 {
     if tally.len() != usize::from(net.steps()) {
         return Err(Refusal::RowsUnfit);
@@ -52,7 +52,7 @@ pub fn check_sizes<N: Net>(
     target: Target<'_>,
     memory: usize,
 ) -> Result<Kind, Refusal>
-    ensures { (counts : Marking) → let net = (N.meaning flow.now.net.now).net in
+    ensures { (counts : Marking) → let net = (N.net flow.now.net.now) in
         let before = held counts spare done.now in
         let wanted = target_of target.entry.numbers.now target.entry.kind in
         Checked (size_refusal net before flow.now.tally.now wanted memory) target.entry.kind result }
@@ -80,7 +80,7 @@ pub fn check_survey<N: Net>(
     target: Target<'_>,
     memory: usize,
 ) -> Result<Kind, Refusal>
-    ensures { (counts : Marking) (spare : ℕ) → Checked (survey_refusal (N.meaning net.now).net (held counts spare done.now) tally.now (target_of target.entry.numbers.now target.entry.kind) memory) target.entry.kind result }
+    ensures { (counts : Marking) (spare : ℕ) → Checked (survey_refusal (N.net net.now) (held counts spare done.now) tally.now (target_of target.entry.numbers.now target.entry.kind) memory) target.entry.kind result }
 {
     let kind = check_rows(net, tally, target)?;
     if done_total(done) + steps_asked(net, tally) > DONE_LIMIT {

@@ -12,9 +12,9 @@ use nets::net::Net;
 
 /// Puts the yields of a step down, lowest place first, so that every board fills alike.
 fn put_yields<N: Net, B: Board>(net: &N, board: &mut B, step: u16)
-    requires { yields_of (N.meaning net.now).net step ≤ B.spare board.old }
-    ensures counts { (p : ℕ) → B.counts board.new p ≡ B.counts board.old p + (N.meaning net.now).net.yields step p }
-    ensures spare { B.spare board.new + yields_of (N.meaning net.now).net step ≡ B.spare board.old }
+    requires { yields_of (N.net net.now) step ≤ B.spare board.old }
+    ensures counts { (p : ℕ) → B.counts board.new p ≡ B.counts board.old p + (N.net net.now).yields step p }
+    ensures spare { B.spare board.new + yields_of (N.net net.now) step ≡ B.spare board.old }
 {
     for place in net.yield_places(step).iter() {
         let _ = board.put(place, u32::from(net.yield_at(step, place)));
@@ -24,8 +24,8 @@ fn put_yields<N: Net, B: Board>(net: &N, board: &mut B, step: u16)
 /// Fires a step of which the caller knows that it can be fired on the board: nothing is asked before the take, and no
 /// call is refused.
 pub fn move_ready<N: Net, B: Board>(net: &N, board: &mut B, step: u16)
-    requires { can_move (N.meaning net.now).net (B.counts board.old) (B.spare board.old) step ≡ true }
-    ensures { Moved (N.meaning net.now).net step (B.counts board.old) (B.spare board.old) (B.counts board.new) (B.spare board.new) }
+    requires { can_move (N.net net.now) (B.counts board.old) (B.spare board.old) step ≡ true }
+    ensures { Moved (N.net net.now) step (B.counts board.old) (B.spare board.old) (B.counts board.new) (B.spare board.new) }
 {
     if let Some(input) = net.input(step) {
         let _ = board.take(input);

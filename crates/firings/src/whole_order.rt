@@ -17,9 +17,9 @@ const FEW_STEPS: usize = 64;
 
 /// Moves an order step by step, where it can be fired and spare holds all that it yields.
 fn move_each<N: Net, B: Board>(net: &N, board: &mut B, order: &[u16])
-    requires fires { CanFire (N.meaning net.now).net (B.counts board.old) order.now }
-    requires room { yields_in (N.meaning net.now).net order.now ≤ B.spare board.old }
-    ensures { MovedBy (N.meaning net.now).net order.now (B.counts board.old) (B.spare board.old) (B.counts board.new) (B.spare board.new) }
+    requires fires { CanFire (N.net net.now) (B.counts board.old) order.now }
+    requires room { yields_in (N.net net.now) order.now ≤ B.spare board.old }
+    ensures { MovedBy (N.net net.now) order.now (B.counts board.old) (B.spare board.old) (B.counts board.new) (B.spare board.new) }
 {
     for step in order {
         move_ready(net, board, *step);
@@ -30,8 +30,8 @@ fn move_each<N: Net, B: Board>(net: &N, board: &mut B, order: &[u16])
 /// `steps` is how many the tally asks for.
 fn move_at_once<N: Net, B: Board>(flow: &Flow<'_, N>, board: &mut B, steps: usize) -> bool
     requires few { steps ≤ 65535 }
-    requires room { yields_asked (N.meaning flow.now.net.now).net (at flow.now.tally.now) ≤ B.spare board.old }
-    ensures { MovedAtOnce (N.meaning flow.now.net.now).net (at flow.now.tally.now) steps result (B.counts board.old) (B.spare board.old) (B.counts board.new) (B.spare board.new) }
+    requires room { yields_asked (N.net flow.now.net.now) (at flow.now.tally.now) ≤ B.spare board.old }
+    ensures { MovedAtOnce (N.net flow.now.net.now) (at flow.now.tally.now) steps result (B.counts board.old) (B.spare board.old) (B.counts board.new) (B.spare board.new) }
 {
     if steps < FEW_STEPS {
         return false;
@@ -44,11 +44,11 @@ fn move_at_once<N: Net, B: Board>(flow: &Flow<'_, N>, board: &mut B, steps: usiz
 /// Moves an order that does the tally of the flow, where spare holds all that the tally yields: all places at once, if
 /// the board can do that, and else step by step.
 pub fn move_order<N: Net, B: Board>(flow: &Flow<'_, N>, board: &mut B, order: &[u16])
-    requires does { Realizes (N.meaning flow.now.net.now).net (B.counts board.old) (at flow.now.tally.now) order.now }
+    requires does { Realizes (N.net flow.now.net.now) (B.counts board.old) (at flow.now.tally.now) order.now }
     requires few { length order.now ≤ 65535 }
-    requires room { yields_asked (N.meaning flow.now.net.now).net (at flow.now.tally.now) ≤ B.spare board.old }
-    ensures counts { B.counts board.new ≡ after (N.meaning flow.now.net.now).net (B.counts board.old) order.now }
-    ensures spare { let M = (N.meaning flow.now.net.now).net in B.spare board.new ≡ (B.spare board.old + steps_asked M (at flow.now.tally.now)) - yields_asked M (at flow.now.tally.now) }
+    requires room { yields_asked (N.net flow.now.net.now) (at flow.now.tally.now) ≤ B.spare board.old }
+    ensures counts { B.counts board.new ≡ after (N.net flow.now.net.now) (B.counts board.old) order.now }
+    ensures spare { let M = (N.net flow.now.net.now) in B.spare board.new ≡ (B.spare board.old + steps_asked M (at flow.now.tally.now)) - yields_asked M (at flow.now.tally.now) }
 {
     if !move_at_once(flow, board, order.len()) {
         move_each(flow.net, board, order);

@@ -139,8 +139,8 @@ fn show_markings<B: Board, C: Board>(
 
 /// How a hand-over ended.
 fn outcome_of<N: Net, B: Board, C: Board>(day: &Transcript<N, B, C>) -> Outcome
-    ensures agree { result ≡ Outcome.Agree → AgreeBelow (N.meaning day.now.second.net).net.places (B.counts day.now.board) (C.counts day.now.second.board) }
-    ensures differ { result ≡ Outcome.Differ → AgreeBelow (N.meaning day.now.second.net).net.places (B.counts day.now.board) (C.counts day.now.second.board) → ⊥ }
+    ensures agree { result ≡ Outcome.Agree → AgreeBelow (N.net day.now.second.net).places (B.counts day.now.board) (C.counts day.now.second.board) }
+    ensures differ { result ≡ Outcome.Differ → AgreeBelow (N.net day.now.second.net).places (B.counts day.now.board) (C.counts day.now.second.board) → ⊥ }
 {
     if day.replay.is_err() {
         Outcome::Refused

@@ -18,7 +18,7 @@ pub fn make<N: Net, B: Board>(
     findings: &mut [Finding],
 ) -> Answer
     ensures net { sitting.new.net ≡ sitting.old.net }
-    ensures made { Made (N.meaning sitting.old.net).net (held_by B.Board sitting.old) (call_of (length order.old) (length findings.old) call.now) order.old findings.old result (held_by B.Board sitting.new) order.new findings.new }
+    ensures made { Made (N.net sitting.old.net) (held_by B.Board sitting.old) (call_of (length order.old) (length findings.old) call.now) order.old findings.old result (held_by B.Board sitting.new) order.new findings.new }
 {
     match call {
         Call::Fire(step) => sitting.fire(*step).map(|()| Done::Fired),
@@ -42,7 +42,7 @@ pub(crate) fn make_all<N: Net, B: Board>(
 )
     requires { length calls.now ≤ length said.old }
     ensures net { sitting.new.net ≡ sitting.old.net }
-    ensures made { AllMade (N.meaning sitting.old.net).net (held_by B.Board sitting.old) (map (call_of (length order.old) (length findings.old)) calls.now) order.old findings.old said.old (held_by B.Board sitting.new) order.new findings.new said.new }
+    ensures made { AllMade (N.net sitting.old.net) (held_by B.Board sitting.old) (map (call_of (length order.old) (length findings.old)) calls.now) order.old findings.old said.old (held_by B.Board sitting.new) order.new findings.new said.new }
 {
     for (i, call) in calls.iter().enumerate() {
         said[i] = make(sitting, call, order, findings);

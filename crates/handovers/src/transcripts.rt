@@ -42,8 +42,8 @@ fn replay_kept<N: Net + Drop, C: Board + Drop>(
     memory: usize,
 ) -> Result<(OwnedAnswer, Sitting<N, C>), AllocError>
     ensures { IfOk result (λ h.
-        let counters = counters_of (N.meaning net).net (held (at marking.now) 0 done.now) memory in
-        Kept (N.meaning net).net (new_on (C.counts board) (C.spare board)) counters (said_of h.0) (held_by C.Board h.1)) }
+        let counters = counters_of (N.net net) (held (at marking.now) 0 done.now) memory in
+        Kept (N.net net) (new_on (C.counts board) (C.spare board)) counters (said_of h.0) (held_by C.Board h.1)) }
 {
     let mut order = vec![in alloc; 0u16; memory]?;
     let (told, second) = replay(net, board, done, marking, order.as_mut_slice());
@@ -64,7 +64,7 @@ pub fn transcribe<N: Net + Drop, B: Board + Drop, C: Board + Drop>(
         let start = new_on (B.counts first) (B.spare first) in
         let other = new_on (C.counts second) (C.spare second) in
         let left = held (B.counts h.board) (B.spare h.board) h.done in
-        Transcribed (N.meaning net).net start other (map owned_call calls.now) memory (map said_of h.said.items) left (said_of h.replay) (held_by C.Board h.second)) }
+        Transcribed (N.net net) start other (map owned_call calls.now) memory (map said_of h.said.items) left (said_of h.replay) (held_by C.Board h.second)) }
 {
     let mut sitting = Sitting::new(net, first);
     let said = perform_all(alloc, &mut sitting, calls)?;

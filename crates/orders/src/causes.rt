@@ -12,7 +12,7 @@ use totals::finals::Asked;
 
 /// Refused: `Short`, else `CutOff`, else `Missed`, each with the least place that it is true of.
 pub(crate) fn check_causes<N: Net>(asked: &Asked<'_, N>) -> Result<(), Refusal>
-    ensures { let flow = asked.now.flow.now in let net = (N.meaning flow.net.now).net in
+    ensures { let flow = asked.now.flow.now in let net = (N.net flow.net.now) in
         let target = target_with asked.now.target.now asked.now.kind in
         result ≡ answered (cause_refusal net (at asked.now.counts.now) (at flow.tally.now) target) tt }
 {

@@ -21,11 +21,11 @@ pub(crate) fn write_first_order<N: Net>(
     tally: &[u16],
     memory: &mut [u16],
 ) -> usize
-    requires can { Realizable (N.meaning net.now).net (at counts.now) (at tally.now) }
-    requires fits { (p : ℕ) → at counts.now p + yields_asked (N.meaning net.now).net (at tally.now) ≤ board_limit }
-    requires long { steps_asked (N.meaning net.now).net (at tally.now) ≤ length memory.old }
-    ensures answer { result ≡ length (first_order (N.meaning net.now).net (at counts.now) (at tally.now)) }
-    ensures memory { memory.new ≡ written (first_order (N.meaning net.now).net (at counts.now) (at tally.now)) memory.old }
+    requires can { Realizable (N.net net.now) (at counts.now) (at tally.now) }
+    requires fits { (p : ℕ) → at counts.now p + yields_asked (N.net net.now) (at tally.now) ≤ board_limit }
+    requires long { steps_asked (N.net net.now) (at tally.now) ≤ length memory.old }
+    ensures answer { result ≡ length (first_order (N.net net.now) (at counts.now) (at tally.now)) }
+    ensures memory { memory.new ≡ written (first_order (N.net net.now) (at counts.now) (at tally.now)) memory.old }
 {
     let mut schedule = Schedule::new();
     schedule.read(net, counts, tally);

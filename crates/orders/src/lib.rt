@@ -30,7 +30,7 @@ pub fn fire_tally<N: Net, B: Board>(
     target: Target<'_>,
     memory: &mut [u16],
 ) -> Result<usize, Refusal>
-    ensures { Fired (N.meaning net.now).net (held (B.counts board.old) (B.spare board.old) done.now) tally.now (target_of target.entry.numbers.now target.entry.kind) memory.old result (B.counts board.new) (B.spare board.new) memory.new }
+    ensures { Fired (N.net net.now) (held (B.counts board.old) (B.spare board.old) done.now) tally.now (target_of target.entry.numbers.now target.entry.kind) memory.old result (B.counts board.new) (B.spare board.new) memory.new }
 {
     let flow = Flow::of(net, tally);
     let kind = check_sizes(&flow, board.spare(), done, target, memory.len())?;

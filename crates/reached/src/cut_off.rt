@@ -11,7 +11,7 @@ use place_sets::PlaceSet;
 
 /// The places that the tally uses and no block can come to.
 pub fn cut_off_places<N: Net>(net: &N, counts: &[u32], tally: &[u16]) -> PlaceSet
-    ensures { let M = (N.meaning net.now).net in (p : ℕ) → has result p ≡ (nat_lt p M.places && is_cut_off M (at counts.now) (at tally.now) p) }
+    ensures { let M = (N.net net.now) in (p : ℕ) → has result p ≡ (nat_lt p M.places && is_cut_off M (at counts.now) (at tally.now) p) }
 {
     let marked = marked_in(net, counts);
     used_by(net, tally).difference(reached_from(marked, &leads_of(net, tally)))
@@ -19,7 +19,7 @@ pub fn cut_off_places<N: Net>(net: &N, counts: &[u32], tally: &[u16]) -> PlaceSe
 
 /// The places at which a step of the tally takes or yields.
 fn used_by<N: Net>(net: &N, tally: &[u16]) -> PlaceSet
-    ensures { (p : ℕ) → has result p ≡ in_subnet (N.meaning net.now).net (at tally.now) p }
+    ensures { (p : ℕ) → has result p ≡ in_subnet (N.net net.now) (at tally.now) p }
 {
     let mut used = PlaceSet::empty();
     for step in 0..net.steps() {

@@ -10,7 +10,7 @@ use place_sets::PlaceSet;
 
 /// The input of a step that the tally asks for.
 pub fn input_asked<N: Net>(net: &N, tally: &[u16], step: u16) -> Option<u8>
-    ensures { let M = (N.meaning net.now).net in MatchOption result (step < M.steps → at tally.now step ≡ 0) (λ p. (p ≡ M.input step) × (step < M.steps) × (0 < at tally.now step)) }
+    ensures { let M = (N.net net.now) in MatchOption result (step < M.steps → at tally.now step ≡ 0) (λ p. (p ≡ M.input step) × (step < M.steps) × (0 < at tally.now step)) }
 {
     match tally.get(usize::from(step)).copied().unwrap_or(0) {
         0 => None,
@@ -20,7 +20,7 @@ pub fn input_asked<N: Net>(net: &N, tally: &[u16], step: u16) -> Option<u8>
 
 /// For each place, where the steps of the tally that take there yield.
 pub fn leads_of<N: Net>(net: &N, tally: &[u16]) -> [PlaceSet; MOST_PLACES]
-    ensures { (q p : ℕ) → has_at result q p ≡ leads_to (N.meaning net.now).net (at tally.now) q p }
+    ensures { (q p : ℕ) → has_at result q p ≡ leads_to (N.net net.now) (at tally.now) q p }
 {
     let mut leads = [PlaceSet::empty(); MOST_PLACES];
     for step in 0..net.steps() {
@@ -34,7 +34,7 @@ pub fn leads_of<N: Net>(net: &N, tally: &[u16]) -> [PlaceSet; MOST_PLACES]
 
 /// The places of the net that hold a block.
 pub fn marked_in<N: Net>(net: &N, counts: &[u32]) -> PlaceSet
-    ensures { let M = (N.meaning net.now).net in
+    ensures { let M = (N.net net.now) in
         (p : ℕ) → has result p ≡ (nat_lt p M.places && nat_lt 0 (at counts.now p)) }
 {
     PlaceSet::passing(

@@ -16,7 +16,7 @@ impl Schedule {
     // net has.
     pub fn read<N: Net>(&mut self, net: &N, counts: &[u32; PLACES], tally: &[u16])
         requires { Fresh self.old }
-        ensures { Shows (N.meaning net.now).net (at counts.now) (at tally.now) self.new }
+        ensures { Shows (N.net net.now) (at counts.now) (at tally.now) self.new }
     {
         self.counts = *counts;
         self.marked = marked_in(net, counts);

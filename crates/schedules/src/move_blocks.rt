@@ -20,8 +20,8 @@ impl Schedule {
     // from and yields at stays marked.
     pub fn fire<N: Net>(&mut self, net: &N, step: u16)
         requires ready { has self.old.ready step ≡ true }
-        requires fits { (p : ℕ) → at self.old.counts p + (N.meaning net.now).net.yields step p < 2 ^ 32 }
-        ensures { (m : Marking) (x : Tally) → let M = (N.meaning net.now).net in Shows M m x self.old → Shows M (fired M m step) (less x step) self.new }
+        requires fits { (p : ℕ) → at self.old.counts p + (N.net net.now).yields step p < 2 ^ 32 }
+        ensures { (m : Marking) (x : Tally) → let M = (N.net net.now) in Shows M m x self.old → Shows M (fired M m step) (less x step) self.new }
     {
         self.put_yields(net, step);
         let place = self.input(step);
@@ -32,8 +32,8 @@ impl Schedule {
     /// Puts the yields of a step down.
     fn put_yields<N: Net>(&mut self, net: &N, step: u16)
         requires inside { step < 128 }
-        requires fits { (p : ℕ) → at self.old.counts p + (N.meaning net.now).net.yields step p < 2 ^ 32 }
-        ensures { (m : Marking) (x : Tally) → let M = (N.meaning net.now).net in Shows M m x self.old → Shows M (λ p. m p + M.yields step p) x self.new }
+        requires fits { (p : ℕ) → at self.old.counts p + (N.net net.now).yields step p < 2 ^ 32 }
+        ensures { (m : Marking) (x : Tally) → let M = (N.net net.now) in Shows M m x self.old → Shows M (λ p. m p + M.yields step p) x self.new }
     {
         let places = self.yields(step);
         add_yields(&mut self.counts, net, step, places);
@@ -75,8 +75,8 @@ impl Schedule {
 
 /// Adds what the step yields at the places, of those where it yields.
 fn add_yields<N: Net>(counts: &mut [u32; PLACES], net: &N, step: u16, places: PlaceSet)
-    requires { (p : ℕ) → at counts.old p + (N.meaning net.now).net.yields step p < 2 ^ 32 }
-    ensures { (p : ℕ) → at counts.new p ≡ at counts.old p + cond (has places p) ((N.meaning net.now).net.yields step p) 0 }
+    requires { (p : ℕ) → at counts.old p + (N.net net.now).yields step p < 2 ^ 32 }
+    ensures { (p : ℕ) → at counts.new p ≡ at counts.old p + cond (has places p) ((N.net net.now).yields step p) 0 }
 {
     for place in places.iter() {
         counts[usize::from(place)] += u32::from(net.yield_at(step, place));

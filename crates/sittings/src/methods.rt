@@ -23,8 +23,8 @@ impl<N: Net, B: Board> Sitting<N, B> {
     /// `NoSuchStep`, `DoneLimit`, `InputEmpty`, `SpareShort`; the block that it takes makes room for its yields.
     pub fn fire(&mut self, step: u16) -> Result<(), Refusal>
         ensures net { self.new.net ≡ self.old.net }
-        ensures answer { result ≡ fire_answer (N.meaning self.old.net).net (held_by B.Board self.old) step }
-        ensures after { let net = (N.meaning self.old.net).net in
+        ensures answer { result ≡ fire_answer (N.net self.old.net) (held_by B.Board self.old) step }
+        ensures after { let net = (N.net self.old.net) in
             let before = held_by B.Board self.old in
             held_by B.Board self.new ≡ unless (fire_refusal net before step) before (after_fire net before step) }
     {
@@ -56,12 +56,12 @@ impl<N: Net, B: Board> Sitting<N, B> {
         order: &mut [u16],
     ) -> Result<usize, Refusal>
         ensures net { self.new.net ≡ self.old.net }
-        ensures answer { result ≡ resume_answer (N.meaning self.old.net).net (held_by B.Board self.old) tally.now (target_of target.entry.numbers.now target.entry.kind) (length order.old) }
-        ensures after { let net = (N.meaning self.old.net).net in
+        ensures answer { result ≡ resume_answer (N.net self.old.net) (held_by B.Board self.old) tally.now (target_of target.entry.numbers.now target.entry.kind) (length order.old) }
+        ensures after { let net = (N.net self.old.net) in
             let before = held_by B.Board self.old in
             let target = target_of target.entry.numbers.now target.entry.kind in
             held_by B.Board self.new ≡ unless (resume_refusal net before tally.now target (length order.old)) before (after_resume net before tally.now) }
-        ensures memory { order.new ≡ order_memory (N.meaning self.old.net).net (held_by B.Board self.old) tally.now (target_of target.entry.numbers.now target.entry.kind) order.old }
+        ensures memory { order.new ≡ order_memory (N.net self.old.net) (held_by B.Board self.old) tally.now (target_of target.entry.numbers.now target.entry.kind) order.old }
     {
         let mut table = NetTable::new();
         table.read(&self.net);
@@ -80,8 +80,8 @@ impl<N: Net, B: Board> Sitting<N, B> {
         target: Target<'_>,
         findings: &mut [Finding],
     ) -> Result<usize, Refusal>
-        ensures answer { result ≡ survey_answer (N.meaning self.now.net).net (held_by B.Board self.now) tally.now (target_of target.entry.numbers.now target.entry.kind) (length findings.old) }
-        ensures memory { findings.new ≡ findings_memory (N.meaning self.now.net).net (held_by B.Board self.now) tally.now (target_of target.entry.numbers.now target.entry.kind) findings.old }
+        ensures answer { result ≡ survey_answer (N.net self.now.net) (held_by B.Board self.now) tally.now (target_of target.entry.numbers.now target.entry.kind) (length findings.old) }
+        ensures memory { findings.new ≡ findings_memory (N.net self.now.net) (held_by B.Board self.now) tally.now (target_of target.entry.numbers.now target.entry.kind) findings.old }
     {
         let mut table = NetTable::new();
         table.read(&self.net);

@@ -15,7 +15,7 @@ use totals::finals::Asked;
 
 /// The finding at a place that is short.
 pub(crate) fn short_at<N: Net>(asked: &Asked<'_, N>, place: u8) -> Option<Finding>
-    ensures { let flow = asked.now.flow.now in let net = (N.meaning flow.net.now).net in
+    ensures { let flow = asked.now.flow.now in let net = (N.net flow.net.now) in
         let m = at asked.now.counts.now in let x = at flow.tally.now in
         result ≡ finding_at (is_short net m x) (short_finding net m x) place }
 {
@@ -39,7 +39,7 @@ pub(crate) fn cut_off_at(cut_off: PlaceSet, place: u8) -> Option<Finding>
 
 /// The finding at a place that misses the target.
 pub(crate) fn missed_at<N: Net>(asked: &Asked<'_, N>, place: u8) -> Option<Finding>
-    ensures { let flow = asked.now.flow.now in let net = (N.meaning flow.net.now).net in
+    ensures { let flow = asked.now.flow.now in let net = (N.net flow.net.now) in
         let m = at asked.now.counts.now in let x = at flow.tally.now in
         let target = target_with asked.now.target.now asked.now.kind in
         result ≡ finding_at (is_missed net m x target) (missed_finding net m x target) place }

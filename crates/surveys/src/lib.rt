@@ -30,8 +30,8 @@ pub fn list_findings<'a, N: Net, B: Board>(
     target: Target<'a>,
     memory: &mut [Finding],
 ) -> Result<usize, Refusal>
-    ensures answer { result ≡ survey_answer (N.meaning net.now).net (held (B.counts board.now) (B.spare board.now) done.now) tally.now (target_of target.entry.numbers.now target.entry.kind) (length memory.old) }
-    ensures memory { memory.new ≡ findings_memory (N.meaning net.now).net (held (B.counts board.now) (B.spare board.now) done.now) tally.now (target_of target.entry.numbers.now target.entry.kind) memory.old }
+    ensures answer { result ≡ survey_answer (N.net net.now) (held (B.counts board.now) (B.spare board.now) done.now) tally.now (target_of target.entry.numbers.now target.entry.kind) (length memory.old) }
+    ensures memory { memory.new ≡ findings_memory (N.net net.now) (held (B.counts board.now) (B.spare board.now) done.now) tally.now (target_of target.entry.numbers.now target.entry.kind) memory.old }
 {
     let kind = check_survey(net, done, tally, target, memory.len())?;
     let counts = all_counts(board);

@@ -46,7 +46,7 @@ impl NetTable {
 
     /// Takes over every answer of a net.
     pub fn read<N: Net>(&mut self, net: &N)
-        ensures { table_net self.new.places self.new.steps self.new.inputs self.new.yields ≡ (N.meaning net.now).net }
+        ensures { table_net self.new.places self.new.steps self.new.inputs self.new.yields ≡ (N.net net.now) }
     {
         // While the table has no steps its rows may hold anything, so they are filled where they lie: a table that
         // was given back would be copied. Those past the last step stay as they are.
@@ -63,7 +63,10 @@ impl NetTable {
 }
 
 impl Net for NetTable {
-    ghost meaning = { λ n. record { net = table_net n.places n.steps n.inputs n.yields; law = table_lawful n.places n.steps n.inputs n.yields n.some_place n.few_places n.few_steps n.inputs_inside n.yields_small n.yields_something } };
+    ghost net = { λ n. table_net n.places n.steps n.inputs n.yields };
+
+    ghost lawful = { λ n. table_lawful n.places n.steps n.inputs n.yields n.some_place n.few_places n.few_steps
+        n.inputs_inside n.yields_small n.yields_something };
 
     fn places(&self) -> u8 {
         self.places

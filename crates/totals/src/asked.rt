@@ -19,7 +19,7 @@ pub(crate) fn times(row: &[u16], step: u16) -> u16
 
 /// How many steps the tally asks for.
 pub fn steps_asked<N: Net>(net: &N, tally: &[u16]) -> u64
-    ensures answer { result ≡ steps_asked (N.meaning net.now).net (at tally.now) }
+    ensures answer { result ≡ steps_asked (N.net net.now) (at tally.now) }
     ensures bound { result < 2 ^ 48 }
 {
     sum_below(net.steps(), |step| u32::from(times(tally, step)))
@@ -36,7 +36,7 @@ pub fn done_total(done: &[u16]) -> u64
 
 /// All blocks that one firing of the step yields.
 pub fn yields_of<N: Net>(net: &N, step: u16) -> u32
-    ensures answer { result ≡ yields_of (N.meaning net.now).net step }
+    ensures answer { result ≡ yields_of (N.net net.now) step }
     ensures bound { result < 2 ^ 14 }
 {
     let mut row = [0; MOST_PLACES];

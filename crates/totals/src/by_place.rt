@@ -8,7 +8,7 @@ use nets::net::{MOST_PLACES, Net};
 
 /// The blocks that the steps of the tally take from each place.
 pub fn spent_by_place<N: Net>(net: &N, tally: &[u16]) -> [u32; MOST_PLACES]
-    ensures { (p : ℕ) → at result p ≡ spent (N.meaning net.now).net (at tally.now) p }
+    ensures { (p : ℕ) → at result p ≡ spent (N.net net.now) (at tally.now) p }
 {
     let mut row = [0; MOST_PLACES];
     for step in 0..net.steps() {
@@ -21,7 +21,7 @@ pub fn spent_by_place<N: Net>(net: &N, tally: &[u16]) -> [u32; MOST_PLACES]
 
 /// The blocks that the steps of the tally yield at each place.
 pub fn gained_by_place<N: Net>(net: &N, tally: &[u16]) -> [u32; MOST_PLACES]
-    ensures { (p : ℕ) → at result p ≡ gained (N.meaning net.now).net (at tally.now) p }
+    ensures { (p : ℕ) → at result p ≡ gained (N.net net.now) (at tally.now) p }
 {
     let mut row = [0; MOST_PLACES];
     for step in 0..net.steps() {
@@ -36,7 +36,7 @@ pub fn gained_by_place<N: Net>(net: &N, tally: &[u16]) -> [u32; MOST_PLACES]
 /// Adds to a row what a step yields at each place, so many times.
 fn add_yields<N: Net>(row: &mut [u32; MOST_PLACES], net: &N, step: u16, times: u16)
     requires { (p : ℕ) → at row.old p < 2 ^ 31 }
-    ensures { (p : ℕ) → at row.new p ≡ at row.old p + times * (N.meaning net.now).net.yields step p }
+    ensures { (p : ℕ) → at row.new p ≡ at row.old p + times * (N.net net.now).yields step p }
 {
     // Most steps yield at few places, and only these are gone over.
     for place in net.yield_places(step).iter() {

@@ -23,7 +23,7 @@ pub struct Asked<'a, N: Net> {
 impl<'a, N: Net> Asked<'a, N> {
     /// The blocks that are spent at the place.
     fn spent(&self, place: u8) -> u32
-        ensures { let flow = self.now.flow.now in let net = (N.meaning flow.net.now).net in
+        ensures { let flow = self.now.flow.now in let net = (N.net flow.net.now) in
             result ≡ spent net (at flow.tally.now) place }
     {
         self.flow.spent(place)
@@ -31,7 +31,7 @@ impl<'a, N: Net> Asked<'a, N> {
 
     /// The blocks that the place has and gains.
     fn has_and_gains(&self, place: u8) -> u64
-        ensures answer { let flow = self.now.flow.now in let net = (N.meaning flow.net.now).net in
+        ensures answer { let flow = self.now.flow.now in let net = (N.net flow.net.now) in
             result ≡ at self.now.counts.now place + gained net (at flow.tally.now) place }
         ensures bound { result < 2 ^ 49 }
     {
@@ -48,7 +48,7 @@ impl<'a, N: Net> Asked<'a, N> {
 
     /// Whether more is spent at the place than it has and gains.
     pub fn is_short(&self, place: u8) -> bool
-        ensures { let flow = self.now.flow.now in let net = (N.meaning flow.net.now).net in
+        ensures { let flow = self.now.flow.now in let net = (N.net flow.net.now) in
             result ≡ is_short net (at self.now.counts.now) (at flow.tally.now) place }
     {
         self.has_and_gains(place) < u64::from(self.spent(place))
@@ -56,7 +56,7 @@ impl<'a, N: Net> Asked<'a, N> {
 
     /// The final number of the place.
     pub fn final_number(&self, place: u8) -> i64
-        ensures answer { let flow = self.now.flow.now in let net = (N.meaning flow.net.now).net in
+        ensures answer { let flow = self.now.flow.now in let net = (N.net flow.net.now) in
             result ≡ final_number net (at self.now.counts.now) (at flow.tally.now) place }
         ensures bound { (neg_ℤ (pos (2 ^ 48)) <ℤ result) × (result <ℤ pos (2 ^ 49)) }
     {
@@ -67,7 +67,7 @@ impl<'a, N: Net> Asked<'a, N> {
     /// Whether the tally would leave other than the wanted blocks at the place: more or fewer for an exact target,
     /// fewer for one that is to be covered.
     pub fn is_missed(&self, place: u8) -> bool
-        ensures { let flow = self.now.flow.now in let net = (N.meaning flow.net.now).net in
+        ensures { let flow = self.now.flow.now in let net = (N.net flow.net.now) in
             let target = target_with self.now.target.now self.now.kind in
             result ≡ is_missed net (at self.now.counts.now) (at flow.tally.now) target place }
     {
@@ -81,7 +81,7 @@ impl<'a, N: Net> Asked<'a, N> {
 
     /// By how many blocks the tally overshoots the target at the place; below 0 where it falls behind.
     pub fn missed_by(&self, place: u8) -> i64
-        ensures { let flow = self.now.flow.now in let net = (N.meaning flow.net.now).net in
+        ensures { let flow = self.now.flow.now in let net = (N.net flow.net.now) in
             result ≡ final_number net (at self.now.counts.now) (at flow.tally.now) place -ℤ pos (at self.now.target.now place) }
     {
         self.final_number(place) - i64::from(self.wanted(place))
@@ -91,7 +91,7 @@ impl<'a, N: Net> Asked<'a, N> {
 
     /// The least short place.
     pub fn least_short(&self) -> Option<u8>
-        ensures { let flow = self.now.flow.now in let net = (N.meaning flow.net.now).net in
+        ensures { let flow = self.now.flow.now in let net = (N.net flow.net.now) in
             result ≡ least (is_short net (at self.now.counts.now) (at flow.tally.now)) net.places }
     {
         let places = u16::from(self.flow.net.places());
@@ -100,7 +100,7 @@ impl<'a, N: Net> Asked<'a, N> {
 
     /// The least place that misses the target.
     pub fn least_missed(&self) -> Option<u8>
-        ensures { let flow = self.now.flow.now in let net = (N.meaning flow.net.now).net in
+        ensures { let flow = self.now.flow.now in let net = (N.net flow.net.now) in
             let target = target_with self.now.target.now self.now.kind in
             result ≡ least (is_missed net (at self.now.counts.now) (at flow.tally.now) target) net.places }
     {

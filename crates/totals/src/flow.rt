@@ -16,8 +16,8 @@ pub struct Flow<'a, N: Net> {
     // Found once for all places, since most calls ask of each place.
     spent_at: [u32; MOST_PLACES],
     gained_at: [u32; MOST_PLACES],
-    ghost spent: { (p : ℕ) → at spent_at p ≡ spent (N.meaning net.now).net (at tally.now) p },
-    ghost gained: { (p : ℕ) → at gained_at p ≡ gained (N.meaning net.now).net (at tally.now) p },
+    ghost spent: { (p : ℕ) → at spent_at p ≡ spent (N.net net.now) (at tally.now) p },
+    ghost gained: { (p : ℕ) → at gained_at p ≡ gained (N.net net.now) (at tally.now) p },
 }
 
 impl<'a, N: Net> Flow<'a, N> {
@@ -36,35 +36,35 @@ impl<'a, N: Net> Flow<'a, N> {
 
     /// The blocks that are spent at the place.
     pub fn spent(&self, place: u8) -> u32
-        ensures { result ≡ spent (N.meaning self.now.net.now).net (at self.now.tally.now) place }
+        ensures { result ≡ spent (N.net self.now.net.now) (at self.now.tally.now) place }
     {
         self.spent_at.get(usize::from(place)).copied().unwrap_or(0)
     }
 
     /// The blocks that the place gains.
     pub fn gained(&self, place: u8) -> u32
-        ensures { result ≡ gained (N.meaning self.now.net.now).net (at self.now.tally.now) place }
+        ensures { result ≡ gained (N.net self.now.net.now) (at self.now.tally.now) place }
     {
         self.gained_at.get(usize::from(place)).copied().unwrap_or(0)
     }
 
     /// The blocks that are spent at each place.
     pub fn spent_row(&self) -> &[u32; MOST_PLACES]
-        ensures { (p : ℕ) → at result.now p ≡ spent (N.meaning self.now.net.now).net (at self.now.tally.now) p }
+        ensures { (p : ℕ) → at result.now p ≡ spent (N.net self.now.net.now) (at self.now.tally.now) p }
     {
         &self.spent_at
     }
 
     /// The blocks that each place gains.
     pub fn gained_row(&self) -> &[u32; MOST_PLACES]
-        ensures { (p : ℕ) → at result.now p ≡ gained (N.meaning self.now.net.now).net (at self.now.tally.now) p }
+        ensures { (p : ℕ) → at result.now p ≡ gained (N.net self.now.net.now) (at self.now.tally.now) p }
     {
         &self.gained_at
     }
 
     /// All blocks that the steps of the tally yield: what all places gain.
     pub fn yields_asked(&self) -> u64
-        ensures answer { result ≡ yields_asked (N.meaning self.now.net.now).net (at self.now.tally.now) }
+        ensures answer { result ≡ yields_asked (N.net self.now.net.now) (at self.now.tally.now) }
         ensures bound { result < 2 ^ 48 }
     {
         // a number below the places, a byte, so the cast keeps it

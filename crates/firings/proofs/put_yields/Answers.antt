@@ -1,3 +1,4 @@
+use Rattle.theory.specs.Nets.{LawfulNet}
 use Rattle.std.proofs.Common.{rules, true, ◌≡◌, ℕ, ◌+◌, ◌<◌, sym, ap, ◌∙◌, inl, inr, arith}
 use Rattle.std.proofs.lemmas.Bool.{cases_lt, ltb-true}
 use Rattle.place_sets.specs.Flags.{has}
@@ -8,7 +9,7 @@ use Rattle.firings.proofs.put_yields.Goals as goal
 
 pub loop-place-init : goal.loop-place-init
 loop-place-init g c =
-    let N = (g.N.Net.meaning c.args.net.now).net in
+    let N = (g.N.Net.net c.args.net.now) in
     let set : ℕ = c.into_iter-place-iterator.result.rest in (
       put_none N.places (g.B.Board.counts c.args.board.now) (g.B.Board.spare c.args.board.now) (N.yields c.args.step) (passed set set) (none_passed set),
       λ p e. e,
@@ -18,7 +19,7 @@ pub loop-place-preserved : goal.loop-place-preserved
 loop-place-preserved g c =
     let H = g.B.Board.counts in
     let R = g.B.Board.spare in
-    let N = g.N.Net.meaning c.args.net.now in
+    let N : LawfulNet = record { net = g.N.Net.net c.args.net.now; law = g.met.N.Net.lawful c.args.net.now } in
     let n : ℕ = N.net.places in
     let Y : ℕ → ℕ = N.net.yields c.args.step in
     let p : ℕ = c.in-Some.place in

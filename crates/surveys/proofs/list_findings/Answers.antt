@@ -1,3 +1,4 @@
+use Rattle.theory.specs.Nets.{LawfulNet}
 use Rattle.std.proofs.Common.{◌≡◌, ℕ, ◌<◌, ◌≤◌, ◌&&◌, ◌++◌, length, Some, None, Ok, Err, refl, sym, ap, ◌∙◌, subst, arith, rules}
 use mathlib.Core.Path.{fun_ext}
 use Rattle.std.proofs.lemmas.Bool.{lt-ltb}
@@ -19,7 +20,7 @@ use Rattle.surveys.proofs.list_findings.Goals as goal
 
 pub returns-in_err-kind : goal.returns-in_err-kind
 returns-in_err-kind g c =
-    let N = g.N.Net.meaning c.args.net.now in
+    let N : LawfulNet = record { net = g.N.Net.net c.args.net.now; law = g.met.N.Net.lawful c.args.net.now } in
     let b = c.args.board.now in
     let H = g.B.Board.counts b in
     let s = held H (g.B.Board.spare b) c.args.done.now in
@@ -38,7 +39,7 @@ returns-in_err-kind g c =
 
 pub returns : goal.returns
 returns g c =
-    let N = g.N.Net.meaning c.args.net.now in
+    let N : LawfulNet = record { net = g.N.Net.net c.args.net.now; law = g.met.N.Net.lawful c.args.net.now } in
     let b = c.args.board.now in
     let H = g.B.Board.counts b in
     let s = held H (g.B.Board.spare b) c.args.done.now in

@@ -6,4 +6,4 @@ abbrev pub invariant-loop-step : goal.invariant-loop-step
 invariant-loop-step g l =
     let H = g.B.Board.counts in
     let R = g.B.Board.spare in
-    LeftOf (g.N.Net.meaning l.net).net l.order (H l.initial.board) (R l.initial.board) (drop l.step-index l.order) (H l.board) (R l.board)
+    LeftOf (g.N.Net.net l.net) l.order (H l.initial.board) (R l.initial.board) (drop l.step-index l.order) (H l.board) (R l.board)

@@ -11,7 +11,7 @@ move_each-requires-clause-room g c =
     let b = c.args.board.now in
     let b' = c.move_at_once.new.board in
     let same : Unchanged (g.B.Board.counts b) (g.B.Board.spare b) (g.B.Board.counts b') (g.B.Board.spare b') = c.if-not-move_at_once.ensures in
-    omega (arith, order_fits (g.N.Net.meaning c.args.flow.now.net.now).net (g.B.Board.counts b) (at c.args.flow.now.tally.now) c.args.order.now c.requires.does (g.B.Board.spare b) c.requires.room, same.spare_kept)
+    omega (arith, order_fits (g.N.Net.net c.args.flow.now.net.now) (g.B.Board.counts b) (at c.args.flow.now.tally.now) c.args.order.now c.requires.does (g.B.Board.spare b) c.requires.room, same.spare_kept)
 
 pub returns-then-not-move_at_once-clause-spare :
     goal.returns-then-not-move_at_once-clause-spare
@@ -19,12 +19,12 @@ returns-then-not-move_at_once-clause-spare g c =
     let b = c.args.board.now in
     let b' = c.move_at_once.new.board in
     let same : Unchanged (g.B.Board.counts b) (g.B.Board.spare b) (g.B.Board.counts b') (g.B.Board.spare b') = c.if-not-move_at_once.ensures in
-    spare_after_each (g.N.Net.meaning c.args.flow.now.net.now).net (g.B.Board.counts b) (at c.args.flow.now.tally.now) c.args.order.now c.requires.does
+    spare_after_each (g.N.Net.net c.args.flow.now.net.now) (g.B.Board.counts b) (at c.args.flow.now.tally.now) c.args.order.now c.requires.does
     (g.B.Board.spare b) c.requires.room (g.B.Board.spare c.move_each.new.board) (omega (arith, c.move_each.ensures.1, same.spare_kept))
 
 pub returns-else-not-move_at_once-clause-counts : goal.returns-else-not-move_at_once-clause-counts
 returns-else-not-move_at_once-clause-counts g c =
-    let N = (g.N.Net.meaning c.args.flow.now.net.now).net in
+    let N = (g.N.Net.net c.args.flow.now.net.now) in
     let x = at c.args.flow.now.tally.now in
     let b = c.args.board.now in
     let b' = c.move_at_once.new.board in
@@ -33,7 +33,7 @@ returns-else-not-move_at_once-clause-counts g c =
 
 pub returns-else-not-move_at_once-clause-spare : goal.returns-else-not-move_at_once-clause-spare
 returns-else-not-move_at_once-clause-spare g c =
-    let N = (g.N.Net.meaning c.args.flow.now.net.now).net in
+    let N = (g.N.Net.net c.args.flow.now.net.now) in
     let x = at c.args.flow.now.tally.now in
     let b = c.args.board.now in
     let b' = c.move_at_once.new.board in

@@ -13,7 +13,7 @@ returns-in-Fire-clause-made g c =
 pub returns-in-Resume-clause-made : goal.returns-in-Resume-clause-made
 returns-in-Resume-clause-made g c =
     let a = c.args.sitting.now in
-    let N = (g.N.Net.meaning a.net).net in
+    let N = (g.N.Net.net a.net) in
     let s = held (g.B.Board.counts a.board) (g.B.Board.spare a.board) a.done in
     let r = c.resume.result in
     let m = c.map-in-Resume.result in

@@ -11,6 +11,6 @@ invariant-loop-i g l =
     let a = l.initial.sitting in
     let s = l.sitting in
     (s.net ≡ a.net)
-    × AllMade (g.N.Net.meaning a.net).net (held (H a.board) (R a.board) a.done)
+    × AllMade (g.N.Net.net a.net) (held (H a.board) (R a.board) a.done)
     (map (call_of (length l.initial.order) (length l.initial.findings)) (take l.i l.calls)) l.initial.order l.initial.findings l.initial.said
     (held (H s.board) (R s.board) s.done) l.order l.findings l.said

@@ -1,3 +1,4 @@
+use Rattle.theory.specs.Nets.{LawfulNet}
 use Rattle.std.proofs.Common.{◌≡◌, ℕ, [], length, rules, refl, ◌∙◌, subst}
 use Rattle.theory.specs.Rows.{at}
 use Rattle.answers.specs.States.{new_on}
@@ -9,7 +10,7 @@ use Rattle.handovers.proofs.transcripts.replay_kept.Goals as goal
 
 pub returns : goal.returns
 returns g c =
-    let N = g.N.Net.meaning c.args.net in
+    let N : LawfulNet = record { net = g.N.Net.net c.args.net; law = g.met.N.Net.lawful c.args.net } in
     let s = new_on (g.C.Board.counts c.args.board) (g.C.Board.spare c.args.board) in
     let now = held (at c.args.marking.now) 0 c.args.done.now in
     let w = c.replay-told.result.1 in

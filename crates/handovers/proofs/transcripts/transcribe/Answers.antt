@@ -1,3 +1,4 @@
+use Rattle.theory.specs.Nets.{LawfulNet}
 use Rattle.std.proofs.Common.{◌≡◌, map, vec_items, refl, ap, ◌∙◌, subst}
 use mathlib.Core.Path.{fun_ext}
 use Rattle.theory.specs.Rows.{at}
@@ -14,7 +15,7 @@ pub returns : goal.returns
 returns g c =
     let H = g.B.Board.counts in
     let R = g.B.Board.spare in
-    let N = g.N.Net.meaning c.args.net in
+    let N : LawfulNet = record { net = g.N.Net.net c.args.net; law = g.met.N.Net.lawful c.args.net } in
     let b = c.args.first in
     let z = c.new-sitting.result in
     let y = c.perform_all.new.sitting in
@@ -23,7 +24,7 @@ returns g c =
     let start = new_on (H b) (R b) in
     let other = new_on (g.C.Board.counts c.args.second) (g.C.Board.spare c.args.second) in
     let s = held (H y.board) (R y.board) y.done in
-    let A : g.row.N.Denot → Type 0 = λ n. AllKept (g.N.Net.meaning n).net (held (H z.board) (R z.board) z.done) calls said s in
+    let A : g.row.N.Denot → Type 0 = λ n. AllKept (g.N.Net.net n) (held (H z.board) (R z.board) z.done) calls said s in
     let S : State → Type 0 = λ w. AllKept N.net w calls said s in
     let new : held (H z.board) (R z.board) z.done ≡ start =
     ap (λ w. held (H w) (R w) z.done) c.new-sitting.ensures.board ∙ new_held (H b) (R b) z.done c.new-sitting.ensures.done in
@@ -37,7 +38,7 @@ returns g c =
     let w = c.in_ok-replay.second in
     let second = held (g.C.Board.counts w.board) (g.C.Board.spare w.board) w.done in
     let marking = at c.all_counts-counts.result in
-    let D : g.row.N.Denot → Type 0 = λ n. Kept (g.N.Net.meaning n).net other (counters_of (g.N.Net.meaning n).net (held marking 0 done) c.args.memory) answer second in
+    let D : g.row.N.Denot → Type 0 = λ n. Kept (g.N.Net.net n) other (counters_of (g.N.Net.net n) (held marking 0 done) c.args.memory) answer second in
     let C : Marking → Type 0 = λ m. Kept N.net other (counters_of N.net (held m 0 done) c.args.memory) answer second in
     let same_net : parts.result.0 ≡ c.args.net = parts.ensures.net ∙ (c.perform_all.ensures.net ∙ c.new-sitting.ensures.net) in
     let made = subst C (fun_ext c.all_counts-counts.ensures.answer) (subst D same_net c.in_ok-replay.ensures) in

@@ -1,3 +1,4 @@
+use Rattle.theory.specs.Nets.{LawfulNet}
 use Rattle.std.proofs.Common.{Some, None, sym, refl, ◌∙◌}
 use Rattle.theory.specs.Rows.{at}
 use Rattle.theory.specs.Tests.{least, is_short, is_cut_off}
@@ -9,7 +10,7 @@ use Rattle.orders.proofs.causes.check_causes.Goals as goal
 pub returns-in-Some-first : goal.returns-in-Some-first
 returns-in-Some-first g c =
     let a = c.args.asked.now in
-    let N = g.N.Net.meaning a.flow.now.net.now in
+    let N : LawfulNet = record { net = g.N.Net.net a.flow.now.net.now; law = g.met.N.Net.lawful a.flow.now.net.now } in
     let m = at a.counts.now in
     let x = at a.flow.now.tally.now in
     let P = N.net.places in
@@ -21,7 +22,7 @@ returns-in-Some-first g c =
 pub returns-in-Some-least_missed : goal.returns-in-Some-least_missed
 returns-in-Some-least_missed g c =
     let a = c.args.asked.now in
-    let N = g.N.Net.meaning a.flow.now.net.now in
+    let N : LawfulNet = record { net = g.N.Net.net a.flow.now.net.now; law = g.met.N.Net.lawful a.flow.now.net.now } in
     let m = at a.counts.now in
     let x = at a.flow.now.tally.now in
     let P = N.net.places in
@@ -33,7 +34,7 @@ returns-in-Some-least_missed g c =
 pub returns : goal.returns
 returns g c =
     let a = c.args.asked.now in
-    let N = g.N.Net.meaning a.flow.now.net.now in
+    let N : LawfulNet = record { net = g.N.Net.net a.flow.now.net.now; law = g.met.N.Net.lawful a.flow.now.net.now } in
     let m = at a.counts.now in
     let x = at a.flow.now.tally.now in
     let P = N.net.places in

@@ -1,3 +1,4 @@
+use Rattle.theory.specs.Nets.{LawfulNet}
 use Rattle.std.proofs.Common.{◌≡◌, Some, ℕ, ◌+◌, ◌<◌, length, sym, ap, ◌∙◌, subst, arith}
 use Rattle.theory.specs.Rows.{at}
 use Rattle.theory.specs.Tallies.{steps_asked}
@@ -11,7 +12,7 @@ use Rattle.orders.proofs.first_order.write_first_order.Goals.{in-Some, in_defaul
 
 pub loop-preserved : goal.loop-preserved
 loop-preserved g c =
-    let N = g.N.Net.meaning c.args.net.now in
+    let N : LawfulNet = record { net = g.N.Net.net c.args.net.now; law = g.met.N.Net.lawful c.args.net.now } in
     let m₀ = at c.args.counts.now in
     let x₀ = at c.args.tally.now in
     let lent = c.new-order.result.memory.now in
@@ -44,7 +45,7 @@ loop-preserved g c =
 
 pub fire-requires : goal.fire-requires
 fire-requires g c =
-    let N = g.N.Net.meaning c.args.net.now in
+    let N : LawfulNet = record { net = g.N.Net.net c.args.net.now; law = g.met.N.Net.lawful c.args.net.now } in
     let o = c.loop.order in
     let going = c.loop.invariant.1 in
     let m = going.marking in

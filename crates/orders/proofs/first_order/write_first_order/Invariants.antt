@@ -7,4 +7,4 @@ use Rattle.orders.proofs.first_order.write_first_order.Given as goal
 abbrev pub invariant-loop : goal.invariant-loop
 invariant-loop g l =
     (l.order.memory.ghost_name ≡ l.initial.order.memory.ghost_name)
-    × Going (g.N.Net.meaning l.net).net (at l.counts) (at l.tally) l.initial.order.memory.now l.counter l.schedule l.order.memory.now l.order.len
+    × Going (g.N.Net.net l.net) (at l.counts) (at l.tally) l.initial.order.memory.now l.counter l.schedule l.order.memory.now l.order.len

@@ -8,7 +8,7 @@ use Rattle.reached.proofs.cut_off.cut_off_places.Goals as goal
 
 pub returns : goal.returns
 returns g c p =
-    let lawful : LawfulNet = g.N.Net.meaning c.args.net.now in
+    let lawful : LawfulNet = record { net = g.N.Net.net c.args.net.now; law = g.met.N.Net.lawful c.args.net.now } in
     c.difference.ensures.answer p
     ∙ cut_off_decided lawful.net lawful.law (at c.args.counts.now) (at c.args.tally.now) (has_at c.leads_of.result) (has c.marked_in-marked.result)
     (λ q r _. c.leads_of.ensures q r)

@@ -1,3 +1,4 @@
+use Rattle.theory.specs.Nets.{LawfulNet}
 use Rattle.std.proofs.Common.{ℕ, Bool, ◌&&◌, ◌||◌, eqb, ltb, sym, ap, ◌∙◌, ◌<◌, arith}
 use Rattle.std.proofs.lemmas.Bool.{lt-ltb, le-ltb}
 use Rattle.place_sets.specs.Flags.{has}
@@ -9,7 +10,7 @@ use Rattle.reached.proofs.cut_off.used_by.Goals.{in-Some, in_default}
 
 pub loop-step-preserved : goal.loop-step-preserved
 loop-step-preserved g c p =
-    let L = g.N.Net.meaning c.args.net.now in
+    let L : LawfulNet = record { net = g.N.Net.net c.args.net.now; law = g.met.N.Net.lawful c.args.net.now } in
     let M = L.net in
     let x : ℕ → ℕ = at c.args.tally.now in
     let n : ℕ = c.loop-step.step in

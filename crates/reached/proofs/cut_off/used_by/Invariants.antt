@@ -6,5 +6,5 @@ use Rattle.reached.proofs.cut_off.used_by.Given as goal
 
 abbrev pub invariant-loop-step : goal.invariant-loop-step
 invariant-loop-step g l =
-    let M = (g.N.Net.meaning l.net).net in
+    let M = (g.N.Net.net l.net) in
     (p : ℕ) → has l.used p ≡ any_below (λ t. ltb 0 (at l.tally t) && (eqb (M.input t) p || ltb 0 (M.yields t p))) l.step

@@ -1,3 +1,4 @@
+use Rattle.theory.specs.Nets.{LawfulNet}
 use Rattle.std.proofs.Common.{◌≡◌, ◌<◌, length, ℕ, Bool, ◌&&◌, ◌||◌, eqb, ltb, sym, ap, ◌∙◌, arith}
 use Rattle.std.proofs.lemmas.Bool.{lt-ltb, le-ltb}
 use Rattle.std.proofs.lemmas.List.{length-replicate, length-set}
@@ -17,7 +18,7 @@ loop-step-init g c = (λ q p. none_at _ 64 q p c.empty-leads.ensures.word, lengt
 
 pub loop-step-preserved : goal.loop-step-preserved
 loop-step-preserved g c =
-    let L = g.N.Net.meaning c.args.net.now in
+    let L : LawfulNet = record { net = g.N.Net.net c.args.net.now; law = g.met.N.Net.lawful c.args.net.now } in
     let M = L.net in
     let x : ℕ → ℕ = at c.args.tally.now in
     let n : ℕ = c.loop-step.step in
@@ -50,7 +51,7 @@ loop-step-preserved g c =
 
 pub returns : goal.returns
 returns g c q p =
-    let M = (g.N.Net.meaning c.args.net.now).net in
+    let M = (g.N.Net.net c.args.net.now) in
     c.loop-step.invariant.0 q p
     ∙ ap (any_below (λ t. takes M (at c.args.tally.now) q t && ltb 0 (M.yields t p)))
     (omega (arith, c.loop-step-test.false, c.loop-step.auto.step-end, c.steps-step-end.ensures))

@@ -7,5 +7,5 @@ use Rattle.reached.proofs.leads.leads_of.Given as goal
 
 abbrev pub invariant-loop-step : goal.invariant-loop-step
 invariant-loop-step g l =
-    let M = (g.N.Net.meaning l.net).net in
+    let M = (g.N.Net.net l.net) in
     ((q p : ℕ) → has_at l.leads q p ≡ any_below (λ t. takes M (at l.tally) q t && ltb 0 (M.yields t p)) l.step) × (length l.leads ≡ 64)

@@ -15,7 +15,7 @@ loop-place-preserved g c =
     let inside = c.loop-place.invariant.1 in
     let row = c.loop-place.counts in
     let l : c.from-in-loop-place.result < length row = omega (arith, c.from-in-loop-place.ensures, first.inside, c.told-counts) in (
-      yield_added set rest rest' k first inside less row (at c.args.counts.now) ((g.N.Net.meaning c.args.net.now).net.yields c.args.step)
+      yield_added set rest rest' k first inside less row (at c.args.counts.now) ((g.N.Net.net c.args.net.now).yields c.args.step)
           c.from-in-loop-place.result c.from.result c.from-in-loop-place.ensures l (c.from.ensures ∙ c.yield_at.ensures) c.loop-place.invariant.0,
       rest_inside 64 set rest rest' k first inside less,
     )

@@ -6,5 +6,5 @@ use Rattle.schedules.proofs.move_blocks.add_yields.Given as goal
 
 abbrev pub invariant-loop-place : goal.invariant-loop-place
 invariant-loop-place g l =
-    ((p : ℕ) → at l.counts p ≡ at l.initial.counts p + cond (passed l.initial.place-iterator.rest l.place-iterator.rest p) ((g.N.Net.meaning l.net).net.yields l.step p) 0)
+    ((p : ℕ) → at l.counts p ≡ at l.initial.counts p + cond (passed l.initial.place-iterator.rest l.place-iterator.rest p) ((g.N.Net.net l.net).yields l.step p) 0)
     × ((p : ℕ) → has l.place-iterator.rest p ≡ true → has l.initial.place-iterator.rest p ≡ true)

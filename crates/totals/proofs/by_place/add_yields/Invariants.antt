@@ -7,5 +7,5 @@ use Rattle.totals.proofs.by_place.add_yields.Given as goal
 
 abbrev pub invariant-loop-place : goal.invariant-loop-place
 invariant-loop-place g l =
-    Added (at l.initial.row) (λ p. l.times * (g.N.Net.meaning l.net).net.yields l.step p) (passed l.initial.place-iterator.rest l.place-iterator.rest) l.row
+    Added (at l.initial.row) (λ p. l.times * (g.N.Net.net l.net).yields l.step p) (passed l.initial.place-iterator.rest l.place-iterator.rest) l.row
     × ((p : ℕ) → has l.place-iterator.rest p ≡ true → has l.initial.place-iterator.rest p ≡ true)

@@ -11,12 +11,12 @@ loop-step-init g c p = none_added _ 64 p
 
 pub add_yields-requires : goal.add_yields-requires
 add_yields-requires g c p =
-    let lawful : LawfulNet = g.N.Net.meaning c.args.net.now in
+    let lawful : LawfulNet = record { net = g.N.Net.net c.args.net.now; law = g.met.N.Net.lawful c.args.net.now } in
     omega (arith, c.loop-step.invariant p, gained_few lawful (at c.args.tally.now) c.loop-step.step p (λ k. omega (arith, c.type_inv.tally k)), lawful.law.few_steps)
 
 pub loop-step-preserved : goal.loop-step-preserved
 loop-step-preserved g c p =
-    let lawful : LawfulNet = g.N.Net.meaning c.args.net.now in
+    let lawful : LawfulNet = record { net = g.N.Net.net c.args.net.now; law = g.met.N.Net.lawful c.args.net.now } in
     let x = at c.args.tally.now in
     let f : ℕ → ℕ = λ t. x t * lawful.net.yields t p in
     let n : ℕ = c.loop-step.step in

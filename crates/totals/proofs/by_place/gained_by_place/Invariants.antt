@@ -5,4 +5,4 @@ use Rattle.totals.proofs.by_place.gained_by_place.Given as goal
 
 -- what the steps so far yield
 abbrev pub invariant-loop-step : goal.invariant-loop-step
-invariant-loop-step g l = (p : ℕ) → at l.row p ≡ sum_to (λ t. at l.tally t * (g.N.Net.meaning l.net).net.yields t p) l.step
+invariant-loop-step g l = (p : ℕ) → at l.row p ≡ sum_to (λ t. at l.tally t * (g.N.Net.net l.net).yields t p) l.step

@@ -12,13 +12,13 @@ loop-step-init g c = (refl, λ p. none_added _ 64 p)
 
 pub overflow_add-row : goal.overflow_add-row
 overflow_add-row g c =
-    let L : LawfulNet = g.N.Net.meaning c.args.net.now in
+    let L : LawfulNet = record { net = g.N.Net.net c.args.net.now; law = g.met.N.Net.lawful c.args.net.now } in
     let p : ℕ = c.from-in-Some.result in
     omega (arith, c.loop-step.invariant.1 p, spent_few L (at c.args.tally.now) c.loop-step.step p (λ k. omega (arith, c.type_inv.tally k)), L.law.few_steps, c.from.ensures, c.times.ensures, c.type_inv.tally c.loop-step.step)
 
 pub loop-step-preserved : goal.loop-step-preserved
 loop-step-preserved g c =
-    let L : LawfulNet = g.N.Net.meaning c.args.net.now in
+    let L : LawfulNet = record { net = g.N.Net.net c.args.net.now; law = g.met.N.Net.lawful c.args.net.now } in
     let x = at c.args.tally.now in
     let n : ℕ = c.loop-step.step in
     elim c.match-input.branch [

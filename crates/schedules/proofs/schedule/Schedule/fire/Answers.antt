@@ -9,7 +9,7 @@ use Rattle.schedules.proofs.schedule.Schedule.fire.Goals as goal
 
 pub returns : goal.returns
 returns g c m x h =
-    let lawful : LawfulNet = g.N.Net.meaning c.args.net.now in
+    let lawful : LawfulNet = record { net = g.N.Net.net c.args.net.now; law = g.met.N.Net.lawful c.args.net.now } in
     let N = lawful.net in
     let s : Schedule = c.args.self.now in
     let t : ℕ = c.args.step in

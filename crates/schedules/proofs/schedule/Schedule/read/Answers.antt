@@ -8,7 +8,7 @@ use Rattle.schedules.proofs.schedule.Schedule.read.Goals as goal
 
 pub loop-step-init : goal.loop-step-init
 loop-step-init g c =
-    let lawful : LawfulNet = g.N.Net.meaning c.args.net.now in
+    let lawful : LawfulNet = record { net = g.N.Net.net c.args.net.now; law = g.met.N.Net.lawful c.args.net.now } in
     read_none lawful.net (at c.args.counts.now) (at c.args.tally.now) c.args.self.now _ c.requires
     (record { inputs = refl; yields = refl; takers = refl; before = refl })
     (omega arith) (omega arith) (omega arith) (λ p. refl)
@@ -16,7 +16,7 @@ loop-step-init g c =
 
 pub loop-step-preserved : goal.loop-step-preserved
 loop-step-preserved g c =
-    let lawful : LawfulNet = g.N.Net.meaning c.args.net.now in
+    let lawful : LawfulNet = record { net = g.N.Net.net c.args.net.now; law = g.met.N.Net.lawful c.args.net.now } in
     let n : ℕ = c.loop-step.step in
     let l : n < lawful.net.steps = omega (arith, c.loop-step-test.true, c.steps-step-end.ensures) in
     let input : c.unwrap_or.result ≡ lawful.net.input n = c.unwrap_or.ensures ∙ input_or_0 lawful n c.input.result c.input.ensures in
@@ -28,7 +28,7 @@ loop-step-preserved g c =
 
 pub returns : goal.returns
 returns g c =
-    let lawful : LawfulNet = g.N.Net.meaning c.args.net.now in
+    let lawful : LawfulNet = record { net = g.N.Net.net c.args.net.now; law = g.met.N.Net.lawful c.args.net.now } in
     let x : ℕ → ℕ = at c.args.tally.now in
     let n : ℕ = c.loop-step.step in
     let all : n ≡ lawful.net.steps = omega (arith, c.loop-step-test.false, c.loop-step.auto.step-end, c.steps-step-end.ensures) in

@@ -3,4 +3,4 @@ use Rattle.schedules.proofs.Reading.{ReadTo}
 use Rattle.schedules.proofs.schedule.Schedule.read.Given as goal
 
 abbrev pub invariant-loop-step : goal.invariant-loop-step
-invariant-loop-step g l = ReadTo (g.N.Net.meaning l.net).net (at l.counts) (at l.tally) l.step l.self
+invariant-loop-step g l = ReadTo (g.N.Net.net l.net) (at l.counts) (at l.tally) l.step l.self

@@ -6,7 +6,7 @@ use Rattle.tables.proofs.net_table.NetTable.read.Goals as goal
 -- once the last step is read, the table holds every answer
 pub invariant_of-self-2 : goal.invariant_of-self-2
 invariant_of-self-2 g c =
-    let L : LawfulNet = g.N.Net.meaning c.args.net.now in
+    let L : LawfulNet = record { net = g.N.Net.net c.args.net.now; law = g.met.N.Net.lawful c.args.net.now } in
     let law = L.law in
     let read = c.loop-step.invariant in
     let steps = c.steps-steps.ensures in
