@@ -2,7 +2,7 @@
 
 Usage: python3 reference/make_net_table.py
 
-It writes crates/vectors/stdin (the cases) and crates/vectors/stdout (what the
+It writes crates/net_vectors/stdin (the cases) and crates/net_vectors/stdout (what the
 comparing program prints when it agrees). The same bytes come out every time.
 
 A case is a line `MAKE HEX EXPECT`: MAKE is `grid` or `chained`, HEX the file's
@@ -17,7 +17,7 @@ from typing import Dict, List, NamedTuple, Optional, Sequence, Tuple, Union
 
 from nets import Net, Refused, load_chained, load_grid
 
-FOLDER = Path(__file__).resolve().parent.parent / "crates" / "vectors"
+FOLDER = Path(__file__).resolve().parent.parent / "crates" / "net_vectors"
 SEED = 20
 MOST_BYTES = 900_000
 LEAST_OF_EACH_REFUSAL = 30
@@ -99,11 +99,11 @@ class Table:
         self.lines[make, data] = f"{make} {data.hex() or '-'} {expect}\n"
 
     def cases(self) -> str:
-        """The text of crates/vectors/stdin."""
+        """The text of crates/net_vectors/stdin."""
         return "".join(self.lines.values())
 
     def summary(self) -> str:
-        """The text of crates/vectors/stdout."""
+        """The text of crates/net_vectors/stdout."""
         lines = []
         for make in LOADERS:
             accepted, refused = self.accepted[make], self.refused[make]

@@ -321,7 +321,7 @@ run_bench() {
     for_all="--edition 2024 -C opt-level=3 -C target-cpu=x86-64-v2"
     rustc $for_all --crate-type rlib --crate-name plain -o "$out/libplain.rlib" "$here/bench/plain/lib.rs" ||
         fail "the plain Rust could not be built"
-    rustc $for_all --crate-name bench --extern plain="$out/libplain.rlib" -L native="$here/crates/c_calls/out" \
+    rustc $for_all --crate-name bench --extern plain="$out/libplain.rlib" -L native="$here/crates/c_library/out" \
         -l static=c_calls -o "$out/bench" "$here/bench/harness/main.rs" || fail "the timing could not be built"
     exec "$out/bench" "$@"
 }

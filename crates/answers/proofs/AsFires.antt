@@ -10,7 +10,7 @@ use Rattle.theory.proofs.SumLaws.{sum_to_add, sum_to_change, sum_to_none}
 use Rattle.theory.proofs.TallySums.{one_same, one_other}
 use Rattle.answers.specs.States.{State, Target, done_total, done_limit, yields_of}
 use Rattle.answers.specs.Answers.{unless, fire_refusal, after_fire, resume_refusal, the_order, after_resume}
-use Rattle.answers.specs.Calls.{after_call, after_calls, fires, yields_in}
+use Rattle.answers.specs.Calls.{after_call, after_calls, fires, order_yields}
 use Rattle.answers.specs.Calls.Call.{fire, resume}
 use Rattle.answers.specs.Promise.{Leads, AllAccepted, AsFires, SameState}
 use Rattle.answers.proofs.Sizes.{fits_fire}
@@ -32,7 +32,7 @@ one_more f t n l = omega (arith, sum_to_add f (one_at t) n, sum_one t n l)
 
 -- where each step of the order can be fired, with spare for all yields and within the limit, no fire is refused
 all_accepted : (N : NetMeaning) → NetLaw N → (s : State) (order : List ℕ) → CanFire N s.counts order →
-    yields_in N order ≤ s.spare → done_total s + length order ≤ done_limit →
+    order_yields N order ≤ s.spare → done_total s + length order ≤ done_limit →
     AllAccepted N s (fires order) × Leads N order s (after_calls N s (fires order))
 all_accepted N law s [] c room limit = (tt, leads_nowhere N s)
 all_accepted N law s (t ∷ ts) c room limit =
@@ -41,10 +41,10 @@ all_accepted N law s (t ∷ ts) c room limit =
       a_step = c.0;
       within_limit = one_fits (done_total s) (length ts) limit;
       input_holds = c.1;
-      spare_holds = fits (yields_of N t) (yields_in N ts) room;
+      spare_holds = fits (yields_of N t) (order_yields N ts) room;
     }) in
     let e : after_call N s (fire t) ≡ after_fire N s t = ap (λ (o : Option Refusal). unless o s (after_fire N s t)) ok in
-    let rest = all_accepted N law (after_fire N s t) ts c.2 (left (yields_of N t) (yields_in N ts) room)
+    let rest = all_accepted N law (after_fire N s t) ts c.2 (left (yields_of N t) (order_yields N ts) room)
     (one_on (done_total s) (done_total (after_fire N s t)) (length ts)
     (one_more s.done t 128 (below N.steps c.0 law.few_steps)) limit) in (
       (ok, subst (λ (z : State). AllAccepted N z (fires ts)) (sym e) rest.0),

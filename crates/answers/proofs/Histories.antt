@@ -12,7 +12,7 @@ use Rattle.theory.proofs.TallySums.{one_other}
 use Rattle.theory.proofs.Realized.{fired_is}
 use Rattle.answers.specs.States.{State, Target, New, done_total, done_limit}
 use Rattle.answers.specs.Answers.{unless, fire_refusal, after_fire, resume_refusal, after_resume}
-use Rattle.answers.specs.Calls.{Call, refusal_of, next_state, asked_by, fired_by, after_call, after_calls, history, accepted_times, yields_in}
+use Rattle.answers.specs.Calls.{Call, refusal_of, next_state, asked_by, fired_by, after_call, after_calls, history, accepted_times, order_yields}
 use Rattle.answers.specs.Calls.Call.{fire, resume, survey}
 use Rattle.answers.specs.Promise.{Leads}
 use Rattle.answers.proofs.Sizes.{fire_fits}
@@ -141,7 +141,7 @@ sum_fired N m t n l h =
     )
 
 sum_after : (N : NetMeaning) → NetLaw N → (n : ℕ) → N.places ≤ n → (m : Marking) (order : List ℕ) → CanFire N m order →
-    sum_to (after N m order) n + length order ≡ sum_to m n + yields_in N order
+    sum_to (after N m order) n + length order ≡ sum_to m n + order_yields N order
 sum_after N law n few m [] c = refl
 sum_after N law n few m (t ∷ ts) c =
     let i : N.input t < N.places = law.inputs_inside t c.0 in
@@ -155,7 +155,7 @@ sum_after N law n few m (t ∷ ts) c =
 pub blocks_stay : (N : NetMeaning) → NetLaw N → (order : List ℕ) (s z : State) → Leads N order s z →
     sum_to z.counts 64 + z.spare ≡ sum_to s.counts 64 + s.spare
 blocks_stay N law order s z f =
-    add (sum_to z.counts 64) (sum_to (after N s.counts order) 64) (sum_to s.counts 64) (yields_in N order) (length order)
+    add (sum_to z.counts 64) (sum_to (after N s.counts order) 64) (sum_to s.counts 64) (order_yields N order) (length order)
     (sum_to_same z.counts (after N s.counts order) 64 (λ p _. f.counts p))
     (sum_after N law 64 law.few_places s.counts order f.can_fire) f.spare
   where

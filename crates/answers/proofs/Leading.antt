@@ -13,7 +13,7 @@ use Rattle.theory.proofs.Realized.{first_counts, rest_realizes}
 use Rattle.theory.proofs.Appended.{can_fire_appended, after_appended, times_appended}
 use Rattle.answers.specs.States.{State, Target, yields_of, yields_asked}
 use Rattle.answers.specs.Answers.{unless, fire_refusal, after_fire, resume_refusal, the_order, after_resume}
-use Rattle.answers.specs.Calls.{Call, refusal_of, order_of, next_state, fired_by, after_call, yields_in}
+use Rattle.answers.specs.Calls.{Call, refusal_of, order_of, next_state, fired_by, after_call, order_yields}
 use Rattle.answers.specs.Calls.Call.{fire, resume, survey}
 use Rattle.answers.specs.Promise.{Leads, SameState}
 use Rattle.answers.proofs.Sizes.{fire_fits}
@@ -37,12 +37,12 @@ pub length_both : (a b : List ℕ) → length (a ++ b) ≡ length a + length b
 length_both [] b = omega arith
 length_both (u ∷ us) b = omega (arith, length_both us b)
 
-pub yields_both : (N : NetMeaning) (a b : List ℕ) → yields_in N (a ++ b) ≡ yields_in N a + yields_in N b
+pub yields_both : (N : NetMeaning) (a b : List ℕ) → order_yields N (a ++ b) ≡ order_yields N a + order_yields N b
 yields_both N [] b = omega arith
 yields_both N (u ∷ us) b = omega (arith, yields_both N us b)
 
 -- the yields of an order are those of the tally that it does
-pub yields_is : (N : NetMeaning) (m : Marking) (x : Tally) (order : List ℕ) → Realizes N m x order → yields_in N order ≡ yields_asked N x
+pub yields_is : (N : NetMeaning) (m : Marking) (x : Tally) (order : List ℕ) → Realizes N m x order → order_yields N order ≡ yields_asked N x
 yields_is N m x [] r = sym (sum_nothing x (yields_of N) N.steps (λ u l. sym (r.1 u l)))
 yields_is N m x (t ∷ ts) r =
     omega (
@@ -62,7 +62,7 @@ leads_both N s z y a b f g =
     record {
       can_fire = (can_fire_appended N s.counts a b).1 (f.can_fire, subst (λ (m : Marking). CanFire N m b) e g.can_fire);
       counts = λ p. subst (λ (m : Marking). y.counts p ≡ after N m b p) e (g.counts p) ∙ sym (after_appended N s.counts a b p);
-      spare = spares (yields_in N a) (yields_in N b) (yields_in N (a ++ b)) (length a) (length b) (length (a ++ b))
+      spare = spares (order_yields N a) (order_yields N b) (order_yields N (a ++ b)) (length a) (length b) (length (a ++ b))
           f.spare g.spare (yields_both N a b) (length_both a b);
       done = λ t. omega (arith, f.done t, g.done t, times_appended a b t);
     }
@@ -76,7 +76,7 @@ pub leads_same : (N : NetMeaning) (s a b : State) (order : List ℕ) → Leads N
 leads_same N s a b order f g =
     record {
       counts = λ p. f.counts p ∙ sym (g.counts p);
-      spare = spares (yields_in N order) (length order) f.spare g.spare;
+      spare = spares (order_yields N order) (length order) f.spare g.spare;
       done = λ t. f.done t ∙ sym (g.done t);
     }
   where
@@ -108,7 +108,7 @@ module _ (N : NetMeaning) (s : State) where
       record {
         can_fire = r.0;
         counts = λ p. refl;
-        spare = spare_of (steps_asked N (at tally)) (yields_asked N (at tally)) (yields_in N order) (length order)
+        spare = spare_of (steps_asked N (at tally)) (yields_asked N (at tally)) (order_yields N order) (length order)
             f.spare_holds (yields_is N s.counts (at tally) order r) (long_now N law s tally target memory h);
         done = λ t. ap (λ (k : ℕ). s.done t + k) (elim (cases_lt t N.steps) [
           | inl l ↦ sym (r.1 t l)

@@ -16,9 +16,9 @@ use Rattle.answers.specs.States.{State, New, new_on, Target, exact, done_total, 
 use Rattle.refusals.specs.Answered.{answered}
 use Rattle.answers.specs.Answers.{unless, written, fire_refusal, resume_refusal, the_order, after_resume}
 use Rattle.answers.specs.Findings.{survey_refusal, findings}
-use Rattle.answers.specs.Calls.{Call, refusal_of, order_of, fired_by, after_call, accepted_answer, said, answer_to, after_calls, history, yields_in}
+use Rattle.answers.specs.Calls.{Call, refusal_of, order_of, fired_by, after_call, accepted_answer, said, answer_to, after_calls, history, order_yields}
 use Rattle.answers.specs.Calls.Call.{fire, resume, survey}
-use Rattle.answers.specs.Promise.{NewOn, Leads, Says, Writes, InAnyState, HandOver, Replayed, AfterCalls, Promise}
+use Rattle.answers.specs.Promise.{NewOn, Leads, Says, Writes, InAnyState, HandOver, ReplayedOn, AfterCalls, Promise}
 use Rattle.answers.proofs.Sizes.{fire_fits, fits_fire, why_fire, fire_why, size_fits, survey_fits, fits_survey, why_survey, survey_why}
 use Rattle.answers.proofs.Resumes.{fits_now, such_now, later_now, long_now, accepts, why_resume, resume_why}
 use Rattle.answers.proofs.Leading.{at_past, yields_is, call_leads}
@@ -142,7 +142,7 @@ module _ (N : NetMeaning) (law : NetLaw N) (start : State) (new : New start) (ca
   spare_now : end.spare + yields_asked N end.done ≡ start.spare + done_total end
   spare_now =
       subst (λ (k : ℕ). end.spare + k ≡ start.spare + done_total end) (yields_is N start.counts end.done steps_fired a_run)
-      (subst (λ (k : ℕ). end.spare + yields_in N steps_fired ≡ start.spare + k)
+      (subst (λ (k : ℕ). end.spare + order_yields N steps_fired ≡ start.spare + k)
       (length_is N start.counts end.done steps_fired a_run ∙ done_asked) leads.spare)
 
   -- THE SECOND SITTING
@@ -215,7 +215,7 @@ module _ (N : NetMeaning) (law : NetLaw N) (start : State) (new : New start) (ca
             ((other.spare + n) - y) + start.spare ≡ end.spare + other.spare
         add n n' y y' h i j k = omega arith
 
-    replayed : Replayed N start end other tally numbers memory
+    replayed : ReplayedOn N start end other tally numbers memory
     replayed =
         let e = sym is_resumed in
         record {

@@ -68,13 +68,13 @@ three_none (Some p) b c h = absurd (some_none (Short p) h)
 module _ (N : NetMeaning) (law : NetLaw N) (m : Marking) (x : Tally) (target : Target) where
   -- the two conditions on the places, as their tests have them
   none_short : least (is_short N m x) N.places ≡ None → NoPlaceShort N m x
-  none_short = none_with (is_short N m x) (theory.Short N m x) N.places (λ p _. short_decided N m x p)
+  none_short = none_with (is_short N m x) (theory.IsShort N m x) N.places (λ p _. short_decided N m x p)
 
   none_cut_off : least (is_cut_off N m x) N.places ≡ None → NoPlaceCutOff N m x
   none_cut_off = none_with (is_cut_off N m x) (IsCutOff N m x) N.places (cut_off_decided N law.inputs_inside m x)
 
   short_none : NoPlaceShort N m x → least (is_short N m x) N.places ≡ None
-  short_none = with_none (is_short N m x) (theory.Short N m x) N.places (λ p _. short_decided N m x p)
+  short_none = with_none (is_short N m x) (theory.IsShort N m x) N.places (λ p _. short_decided N m x p)
 
   cut_off_none : NoPlaceCutOff N m x → least (is_cut_off N m x) N.places ≡ None
   cut_off_none = with_none (is_cut_off N m x) (IsCutOff N m x) N.places (cut_off_decided N law.inputs_inside m x)
@@ -175,7 +175,7 @@ module _ (N : NetMeaning) (law : NetLaw N) (s : State) (tally : List ℕ) (targe
 
   why_cause : (e : Refusal) → ResumeFits N s tally target memory → CauseIs e → WhyResume N s tally target memory e
   why_cause e f (inl (p, h, q)) =
-      let w = least_with (is_short N s.counts (at tally)) (theory.Short N s.counts (at tally)) N.places
+      let w = least_with (is_short N s.counts (at tally)) (theory.IsShort N s.counts (at tally)) N.places
       (λ k _. short_decided N s.counts (at tally) k) p h in
       subst (WhyResume N s tally target memory) q
       (a_place_short p f (record { inside = w.0; short = w.1; least = w.2 }))
@@ -222,7 +222,7 @@ module _ (N : NetMeaning) (law : NetLaw N) (s : State) (tally : List ℕ) (targe
   resume_why (a_place_short p f w) =
       or_second _ _ _ (fits_size N s tally target memory f)
       (or_first _ _ _ (ap (option_map Short)
-      (with_least (is_short N s.counts (at tally)) (theory.Short N s.counts (at tally)) N.places
+      (with_least (is_short N s.counts (at tally)) (theory.IsShort N s.counts (at tally)) N.places
       (λ k _. short_decided N s.counts (at tally) k) p w.inside w.short w.least)))
   resume_why (a_place_cut_off p f w) =
       or_second _ _ _ (fits_size N s tally target memory f)

@@ -136,7 +136,7 @@ module _ (N : NetMeaning) (law : NetLaw N) (m : Marking) (x : Tally) (target : T
     short_places = passing (is_short N m x) N.places;
     cut_off_places = passing (is_cut_off N m x) N.places;
     missed_places = passing (is_missed N m x target) N.places;
-    all_short = exactly (is_short N m x) (theory.Short N m x) N.places (λ p _. short_decided N m x p);
+    all_short = exactly (is_short N m x) (theory.IsShort N m x) N.places (λ p _. short_decided N m x p);
     all_cut_off = exactly (is_cut_off N m x) (IsCutOff N m x) N.places (cut_off_decided N law.inputs_inside m x);
     all_missed = exactly (is_missed N m x target) (FinalMisses N m x target) N.places
         (λ p _. final_missed_decided N m x target p known);

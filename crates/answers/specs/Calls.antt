@@ -98,6 +98,6 @@ fires [] = []
 fires (t ∷ ts) = fire t ∷ fires ts
 
 -- all blocks that the steps of the order yield
-abbrev pub yields_in : NetMeaning → List ℕ → ℕ
-yields_in N [] = 0
-yields_in N (t ∷ ts) = yields_of N t + yields_in N ts
+abbrev pub order_yields : NetMeaning → List ℕ → ℕ
+order_yields N [] = 0
+order_yields N (t ∷ ts) = yields_of N t + order_yields N ts

@@ -15,10 +15,10 @@ use Rattle.refusals.specs.Answered.{answered}
 use Rattle.answers.specs.Answers.{first_wrong, unless, written, rows_fit, is_missed}
 
 -- the blocks that a cause tells of
-abbrev pub number_of : Cause → ℤ
-number_of (cause.Short n) = n
-number_of cause.CutOff = pos 0
-number_of (cause.Missed n) = n
+abbrev pub cause_number : Cause → ℤ
+cause_number (cause.Short n) = n
+cause_number cause.CutOff = pos 0
+cause_number (cause.Missed n) = n
 
 -- a short place is listed with what the marking equation gives there
 abbrev pub short_finding : NetMeaning → Marking → Tally → ℕ → Finding

@@ -12,7 +12,7 @@ use Rattle.answers.specs.declared.Finding.{Finding}
 use Rattle.answers.specs.States.{State, New, new_on, Target, exact, done_total, done_limit, yields_asked}
 use Rattle.answers.specs.Answers.{fire_refusal, fire_answer, size_refusal, resume_refusal, the_order, resume_answer, order_memory}
 use Rattle.answers.specs.Findings.{findings, survey_refusal, survey_answer, findings_memory}
-use Rattle.answers.specs.Calls.{Call, Answer, refusal_of, fired_by, after_call, answer_to, after_calls, answers_to, history, accepted_times, fires, yields_in}
+use Rattle.answers.specs.Calls.{Call, Answer, refusal_of, fired_by, after_call, answer_to, after_calls, answers_to, history, accepted_times, fires, order_yields}
 use Rattle.answers.specs.Calls.Call.{fire, resume, survey}
 use Rattle.answers.specs.Calls.Answer.{refused, fired_once, order_written, findings_listed}
 use Rattle.answers.specs.Reasons.{FireFits, WhyFire, ResumeFits, WhyResume, Such, SurveyFits, WhySurvey, AllFound}
@@ -27,7 +27,7 @@ pub record SameState (a b : State) : Type 0 where
 pub record Leads (N : NetMeaning) (order : List ℕ) (before next : State) : Type 0 where
   pub can_fire : CanFire N before.counts order
   pub counts : (p : ℕ) → next.counts p ≡ after N before.counts order p
-  pub spare : next.spare + yields_in N order ≡ before.spare + length order
+  pub spare : next.spare + order_yields N order ≡ before.spare + length order
   pub done : (t : ℕ) → next.done t ≡ before.done t + times order t
 
 -- the call answers with its refusal if it is refused, else with this
@@ -145,7 +145,7 @@ pub record HandOver (N : NetMeaning) (start now other : State) (tally numbers : 
 
 -- the take-over works: one resume brings the new sitting to where the old one is, counters too; if one of the boards
 -- had more spare at the start, it has as much more at the end
-pub record Replayed (N : NetMeaning) (start now other : State) (tally numbers : List ℕ) (memory : ℕ) : Type 0 where
+pub record ReplayedOn (N : NetMeaning) (start now other : State) (tally numbers : List ℕ) (memory : ℕ) : Type 0 where
   pub accepted : resume_refusal N other tally (exact numbers) memory ≡ None
   pub counts : AgreeBelow N.places (after_call N other (resume tally (exact numbers) memory)).counts now.counts
   pub spare : (after_call N other (resume tally (exact numbers) memory)).spare + start.spare ≡ now.spare + other.spare
@@ -169,7 +169,7 @@ pub record AfterCalls (N : NetMeaning) (start : State) (calls : List Call) : Typ
   -- whoever takes over from the counters alone gets as far
   pub replays : (other : State) (tally numbers : List ℕ) (memory : ℕ) →
       HandOver N start (after_calls N start calls) other tally numbers memory →
-      Replayed N start (after_calls N start calls) other tally numbers memory
+      ReplayedOn N start (after_calls N start calls) other tally numbers memory
 
 -- for every board a new sitting; for every lawful net, every sitting, and every list of calls on a new one
 pub record Promise : Type 0 where

@@ -64,8 +64,8 @@ Such N s tally target order =
 -- p is the least short place
 pub record LeastShort (N : NetMeaning) (m : Marking) (x : Tally) (p : ℕ) : Type 0 where
   pub inside : p < N.places
-  pub short : theory.Short N m x p
-  pub least : (q : ℕ) → q < p → theory.Short N m x q → ⊥
+  pub short : theory.IsShort N m x p
+  pub least : (q : ℕ) → q < p → theory.IsShort N m x q → ⊥
 
 -- no place is short, and p is the least that is cut off
 pub record LeastCutOff (N : NetMeaning) (m : Marking) (x : Tally) (p : ℕ) : Type 0 where
@@ -144,7 +144,7 @@ pub record AllFound (N : NetMeaning) (m : Marking) (x : Tally) (target : Target)
   pub short_places : List ℕ
   pub cut_off_places : List ℕ
   pub missed_places : List ℕ
-  pub all_short : Exactly N.places (theory.Short N m x) short_places
+  pub all_short : Exactly N.places (theory.IsShort N m x) short_places
   pub all_cut_off : Exactly N.places (IsCutOff N m x) cut_off_places
   pub all_missed : Exactly N.places (FinalMisses N m x target) missed_places
   -- how far a missed place is off: added to the target it gives what the tally leaves there

@@ -4,6 +4,7 @@ use Rattle.theory.specs.Sums.{sum_to}
 use Rattle.theory.specs.Nets.{NetMeaning}
 use Rattle.theory.specs.Firing.{Marking}
 use Rattle.theory.specs.Tallies.{Tally}
+use Rattle.theory.specs.Rows.{at}
 
 -- what a sitting has to remember of its board and of its work: the marking, how many blocks more would fit on the
 -- board, and the Parikh vector of all steps fired since it was new
@@ -51,3 +52,11 @@ yields_of N t = sum_to (N.yields t) N.places
 -- all blocks that the steps of the tally yield
 abbrev pub yields_asked : NetMeaning → Tally → ℕ
 yields_asked N x = sum_to (λ t. x t * yields_of N t) N.steps
+
+-- what a sitting holds, from the counts and spare of its board and its done row
+abbrev pub state_of : Marking → ℕ → List ℕ → State
+state_of counts spare done = record { counts = counts; spare = spare; done = at done }
+
+-- a target, from its lent row and its kind
+abbrev pub target_of : List ℕ → ℕ → Target
+target_of numbers kind = record { numbers = numbers; kind = kind }

@@ -1,9 +1,9 @@
-//! Answers: what fire, resume and survey answer and leave, as definitions, and the promise over them.
+//! Answers: what fire, resume and survey answer and leave, as definitions, the promise over them, and the limits.
 #![tactic(auto)]
 
 ghost use Rattle.answers.specs.Answers.{is_missed};
 ghost use Rattle.answers.specs.Cases.{CasesHold};
-ghost use Rattle.answers.specs.Findings.{number_of};
+ghost use Rattle.answers.specs.Findings.{cause_number};
 ghost use Rattle.answers.specs.Kinds.{byte_of, KindOf, target_with};
 ghost use Rattle.answers.specs.Pinned.{Pinned};
 ghost use Rattle.answers.specs.Promise.{Promise};
@@ -13,6 +13,7 @@ ghost use Rattle.theory.specs.Nets.{NetMeaning};
 ghost use Rattle.theory.specs.Tallies.{Tally};
 
 use refusals::Refusal;
+use sets::MOST_PLACES;
 
 /// How the marking after an order is held against a target; the calls take it as a byte.
 #[derive(Clone, Copy, PartialEq, Eq, Debug)]
@@ -81,7 +82,7 @@ pub struct Finding {
 impl Cause {
     /// The blocks of the cause; a place that is cut off has 0.
     pub fn number(self) -> i64
-        ensures { result ≡ number_of self }
+        ensures { result ≡ cause_number self }
     {
         match self {
             Cause::Short(number) | Cause::Missed(number) => number,
@@ -104,3 +105,17 @@ pub fn answers_are_pinned()
 pub fn worked_cases()
     ensures hold { CasesHold }
 {}
+
+/// The marking that an order is to end at, in blocks for each place of the net, and whether it is to be just that.
+#[derive(Clone, Copy)]
+pub struct Target<'a> {
+    pub numbers: &'a [u32],
+    /// The byte of a `Kind`: the calls take any, since they answer for an unknown one by a refusal.
+    pub kind: u8,
+}
+
+/// The most steps that a sitting does while it lasts.
+pub const DONE_LIMIT: u64 = 65535;
+
+/// How many findings the memory of a survey has room for, at least: with three causes no net makes more.
+pub const FINDINGS_NEEDED: usize = 3 * MOST_PLACES;

@@ -1,8 +1,7 @@
 //! The desk: what was last shown of the board, and what is printed of a line.
-use boards::board::{Board, PLACES};
-use calls::{Answer, Call, all_counts, perform};
-use command_line::endings::Failure;
-use command_line::names::one_line;
+use board_calls::{Answer, Call, perform};
+use boards::{Board, PLACES, all_counts};
+use command_line::{Failure, one_line};
 use std::io;
 
 /// The longest bar of a picture.

@@ -6,11 +6,9 @@ mod on_pile;
 mod options;
 mod script;
 
-use boards::board::Board;
-use boards::count_board::CountBoard;
-use calls::Answer;
-use command_line::arguments::{only_source, words};
-use command_line::endings::{Failure, end};
+use board_calls::Answer;
+use boards::{Board, CountBoard};
+use command_line::{Failure, end, only_source, words};
 use desk::Desk;
 use on_pile::{Full, OnPile, Under};
 use options::{PROGRAM, command};

@@ -1,11 +1,10 @@
 //! The lines on a pile: layers come over its board, up to four.
 use crate::desk::Desk;
 use crate::script::{Asked, Line};
-use boards::board::Board;
-use calls::Answer;
-use command_line::endings::Failure;
-use layers::allowance::Allowance;
-use layers::renaming::Renaming;
+use board_calls::Answer;
+use boards::Board;
+use command_line::Failure;
+use layers::{Allowance, Renaming};
 use std::marker::PhantomData;
 
 /// What a pile makes of the lines that are left, by how many layers it still takes.

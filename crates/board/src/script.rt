@@ -1,10 +1,10 @@
 //! A board script: the piles that it makes, and the lines on each.
-use boards::board::{LAST_PLACE, PLACES};
-use calls::Call;
-use rows::{Fault, numbers, understood};
+use board_calls::Call;
+use boards::{LAST_PLACE, PLACES};
 use slot_board::SLOTS;
 use std::alloc::{AllocError, Global};
 use std::mem;
+use words::{Fault, numbers, understood};
 
 /// What a new board holds.
 #[derive(Drop)]

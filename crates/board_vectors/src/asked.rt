@@ -1,7 +1,7 @@
 //! What the lines of the table ask for.
-use calls::Call;
-use rows::{Fault, numbers, slots_of, understood};
+use board_calls::Call;
 use std::alloc::Global;
+use words::{Fault, numbers, slots_of, understood};
 
 /// What is asked of a pile, or of a board before any layer is over it.
 #[derive(Drop)]

@@ -1,9 +1,7 @@
 //! The boards that lie under a pile.
 use crate::asked::Asked;
-use boards::board::Board;
-use boards::count_board::CountBoard;
-use calls::all_counts;
-use comparisons::digest::Digest;
+use boards::{Board, CountBoard, all_counts};
+use comparisons::Digest;
 use refusals::Refusal;
 use slot_board::SlotBoard;
 

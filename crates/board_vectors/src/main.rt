@@ -10,9 +10,9 @@ mod table;
 
 use asked::read;
 use base::Base;
-use boards::count_board::CountBoard;
-use calls::Answer;
-use comparisons::comparison::{Line, compare_all, next_line};
+use board_calls::Answer;
+use boards::CountBoard;
+use comparisons::{Line, compare_all, next_line};
 use on_pile::{Full, OnPile, Under};
 use slot_board::SlotBoard;
 use std::io;

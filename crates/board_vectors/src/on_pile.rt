@@ -3,11 +3,10 @@ ghost use Rattle.std.specs.Prelude.{◌≤◌, length, IfOk};
 
 use crate::asked::{Asked, read};
 use crate::table::Table;
-use boards::board::Board;
-use calls::{Answer, perform};
-use comparisons::comparison::Line;
-use layers::allowance::Allowance;
-use layers::renaming::Renaming;
+use board_calls::{Answer, perform};
+use boards::Board;
+use comparisons::Line;
+use layers::{Allowance, Renaming};
 use std::marker::PhantomData;
 
 /// What a pile makes of lines, by how many layers it still takes; gives the board back, and the lines

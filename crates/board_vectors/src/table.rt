@@ -1,8 +1,7 @@
 //! How far the lines of the table agree with what the boards here answer.
-use boards::board::Board;
-use calls::{Answer, all_counts};
-use comparisons::comparison::{Comparison, Line};
-use comparisons::digest::Digest;
+use board_calls::Answer;
+use boards::{Board, all_counts};
+use comparisons::{Comparison, Digest, Line};
 use std::alloc::Global;
 use std::io;
 

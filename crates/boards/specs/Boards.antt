@@ -13,8 +13,8 @@ abbrev pub BoardLaw : (ℕ → ℕ) → ℕ → Type 0
 BoardLaw counts spare = sum_to counts 64 + spare ≤ board_limit
 
 -- n at the place itself, 0 at every other
-abbrev pub at : ℕ → ℕ → ℕ → ℕ
-at place p n = cond (place == p) n 0
+abbrev pub only_at : ℕ → ℕ → ℕ → ℕ
+only_at place p n = cond (place == p) n 0
 
 -- every count and spare are as they were
 pub record Unchanged (counts : ℕ → ℕ) (spare : ℕ) (counts' : ℕ → ℕ) (spare' : ℕ) : Type 0 where
@@ -25,14 +25,14 @@ pub record Unchanged (counts : ℕ → ℕ) (spare : ℕ) (counts' : ℕ → ℕ
 pub record Taken (place : ℕ) (counts : ℕ → ℕ) (spare : ℕ) (counts' : ℕ → ℕ) (spare' : ℕ) : Type 0 where
   pub inside : place ≤ 63
   pub filled : 0 < counts place
-  pub lowered : (p : ℕ) → counts' p ≡ counts p - at place p 1
+  pub lowered : (p : ℕ) → counts' p ≡ counts p - only_at place p 1
   pub raised : spare' ≡ spare + 1
 
 -- n blocks have moved from spare to the place
 pub record Put (place n : ℕ) (counts : ℕ → ℕ) (spare : ℕ) (counts' : ℕ → ℕ) (spare' : ℕ) : Type 0 where
   pub inside : place ≤ 63
   pub enough : n ≤ spare
-  pub raised : (p : ℕ) → counts' p ≡ counts p + at place p n
+  pub raised : (p : ℕ) → counts' p ≡ counts p + only_at place p n
   pub lowered : spare' + n ≡ spare
 
 -- why a take is refused

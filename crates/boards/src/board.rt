@@ -1,13 +1,14 @@
 //! The trait of boards: where the blocks of a sitting lie, and five calls that read and move them.
-ghost use Rattle.std.specs.Prelude.{◌≡◌, ℕ, ◌+◌, ◌<◌, MatchOption, ◌⊎◌};
-ghost use Rattle.theory.specs.Rows.{at};
 ghost use Rattle.boards.specs.Boards.{BoardLaw, IndexSays, TakeSays, PutSays, MoveAllSays};
+ghost use Rattle.std.specs.Prelude.{◌≡◌, ℕ, slice_index, ◌+◌, ◌<◌, MatchOption, ◌⊎◌};
+ghost use Rattle.theory.specs.Rows.{at};
 
 use refusals::Refusal;
+use sets::MOST_PLACES;
+use std::array;
 
-/// How many places a board has, numbered from 0. Nets and place sets have this number too, for themselves: none of
-/// the three rests on another.
-pub const PLACES: usize = 64;
+/// How many places a board has, numbered from 0.
+pub const PLACES: usize = MOST_PLACES;
 
 /// The highest place of a board.
 pub const LAST_PLACE: u8 = PLACES as u8 - 1;
@@ -74,4 +75,12 @@ pub trait Board {
     ghost outside: { (b : Self) (p : ℕ) → 63 < p → counts b p ≡ 0 };
 
     ghost bounded: { (b : Self) → BoardLaw (counts b) (spare b) };
+}
+
+/// The counts of the 64 places.
+pub fn all_counts<B: Board>(board: &B) -> [u32; PLACES]
+    ensures answer { (p : ℕ) → slice_index result p ≡ B.counts board.now p }
+{
+    // an index of the array, so the cast keeps it
+    array::from_fn(|place| board.count(place as u8))
 }

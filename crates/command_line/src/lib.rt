@@ -2,7 +2,12 @@
 //! how a program ends.
 #![tactic(auto)]
 
-pub mod arguments;
-pub mod endings;
-pub mod files;
-pub mod names;
+mod arguments;
+mod endings;
+mod files;
+mod names;
+
+pub use arguments::{only_source, sources, words};
+pub use endings::{Failure, end, say};
+pub use files::{Opened, Source, Unread, first_bytes, text_of};
+pub use names::{one_line, read_back};

@@ -3,7 +3,7 @@ use Rattle.std.proofs.Common.{◌≡◌, ℕ, ◌+◌, ◌<◌, ◌≤◌, Bool,
 use Rattle.std.proofs.lemmas.Bool.{cases_eq, eq-eqb, ne_eqb, ltb-false, or_right, cond-true, cond-false, cond_both}
 use Rattle.std.proofs.Math.Bool.{or-false}
 use Rattle.refusals.specs.declared.Refusal.{Refusal}
-use Rattle.boards.specs.Boards.{at, PutSays, Put, TakeSays, Taken}
+use Rattle.boards.specs.Boards.{only_at, PutSays, Put, TakeSays, Taken}
 use Rattle.theory.specs.Sums.{sum_to}
 use Rattle.theory.proofs.SumLaws.{sum_to_none, sum_to_same, sum_to_change, sum_to_mono}
 
@@ -50,7 +50,7 @@ module _ (n : ℕ) (Y : ℕ → ℕ) (done done' : ℕ → Bool) (p : ℕ) (l : 
   put_fits s₀ s room inv =
       omega (arith, room, inv, sum_more, sum_to_mono (yields_in done' Y) Y n (λ q j. cond_both (done' q) (Y q) 0 (λ v. v ≤ Y q) (λ e. omega arith) (λ e. omega arith)))
 
-  pub put_more : (h₀ : ℕ → ℕ) (s₀ : ℕ) (h : ℕ → ℕ) (s : ℕ) (h' : ℕ → ℕ) (s' : ℕ) → PutIn n h₀ s₀ Y done h s → ((q : ℕ) → h' q ≡ h q + at p q (Y p)) → s' + Y p ≡ s → PutIn n h₀ s₀ Y done' h' s'
+  pub put_more : (h₀ : ℕ → ℕ) (s₀ : ℕ) (h : ℕ → ℕ) (s : ℕ) (h' : ℕ → ℕ) (s' : ℕ) → PutIn n h₀ s₀ Y done h s → ((q : ℕ) → h' q ≡ h q + only_at p q (Y p)) → s' + Y p ≡ s → PutIn n h₀ s₀ Y done' h' s'
   put_more h₀ s₀ h s h' s' inv d e = (
     λ q. ⊎_elim
         (λ (z : q ≡ p).

@@ -6,7 +6,7 @@ use Rattle.theory.specs.Firing.{Marking, CanFire, after}
 use Rattle.theory.specs.Tallies.{Tally, Realizes, steps_asked, spent, gained}
 use Rattle.theory.proofs.Realized.{leaves, length_is}
 use Rattle.answers.specs.States.{yields_of, yields_asked}
-use Rattle.answers.specs.Calls.{yields_in}
+use Rattle.answers.specs.Calls.{order_yields}
 use Rattle.answers.proofs.Leading.{yields_is}
 use mathlib.Core.Path.{fun_ext}
 use Rattle.firings.specs.Moves.{can_move, Moved}
@@ -14,9 +14,9 @@ use Rattle.firings.specs.Moves.{can_move, Moved}
 -- the steps that are left of an order which was to be moved from m₀, with spare₀
 pub record LeftOf (N : NetMeaning) (order : List ℕ) (m₀ : Marking) (spare₀ : ℕ) (rest : List ℕ) (m : Marking) (spare : ℕ) : Type 0 where
   pub fires : CanFire N m rest
-  pub room : yields_in N rest ≤ spare
+  pub room : order_yields N rest ≤ spare
   pub leads : after N m rest ≡ after N m₀ order
-  pub moved : (spare + length rest) + yields_in N order ≡ (spare₀ + length order) + yields_in N rest
+  pub moved : (spare + length rest) + order_yields N order ≡ (spare₀ + length order) + order_yields N rest
 
 module _ (N : NetMeaning) (order : List ℕ) (m₀ : Marking) (spare₀ : ℕ) (t : ℕ) (rest : List ℕ) (m : Marking) (spare : ℕ)
     (h : LeftOf N order m₀ spare₀ (t ∷ rest) m spare) where
@@ -38,11 +38,11 @@ module _ (N : NetMeaning) (order : List ℕ) (m₀ : Marking) (spare₀ : ℕ) (
 
 -- an order that does the tally, with spare for all that it yields
 module _ (N : NetMeaning) (m : Marking) (x : Tally) (order : List ℕ) (does : Realizes N m x order) (spare : ℕ) (room : yields_asked N x ≤ spare) where
-  pub order_fits : yields_in N order ≤ spare
+  pub order_fits : order_yields N order ≤ spare
   order_fits = omega (arith, room, yields_is N m x order does)
 
   -- what is left of spare when each step was moved
-  pub spare_after_each : (spare' : ℕ) → spare' + yields_in N order ≡ spare + length order → spare' ≡ (spare + steps_asked N x) - yields_asked N x
+  pub spare_after_each : (spare' : ℕ) → spare' + order_yields N order ≡ spare + length order → spare' ≡ (spare + steps_asked N x) - yields_asked N x
   spare_after_each spare' e = omega (arith, e, yields_is N m x order does, length_is N m x order does)
 
   -- and what lies at the places, when all was moved at once

@@ -3,7 +3,7 @@ use Rattle.std.specs.Prelude.{◌≡◌, ℕ, ◌+◌, ◌-◌, Bool, not, ◌&&
 use Rattle.theory.specs.Nets.{NetMeaning}
 use Rattle.theory.specs.Firing.{Marking, fired, after}
 use Rattle.theory.specs.Tallies.{Tally, spent, gained}
-use Rattle.answers.specs.Calls.{yields_in}
+use Rattle.answers.specs.Calls.{order_yields}
 use Rattle.answers.specs.States.{yields_of, yields_asked}
 use Rattle.boards.specs.Boards.{MoveAllSays}
 
@@ -18,7 +18,7 @@ Moved N t m spare m' spare' = (m' ≡ fired N m t) × (spare' ≡ (spare + 1) - 
 
 -- what is left on a board on which the order was fired
 abbrev pub MovedBy : NetMeaning → List ℕ → Marking → ℕ → Marking → ℕ → Type 0
-MovedBy N order m spare m' spare' = (m' ≡ after N m order) × (spare' + yields_in N order ≡ spare + length order)
+MovedBy N order m spare m' spare' = (m' ≡ after N m order) × (spare' + order_yields N order ≡ spare + length order)
 
 -- whether all that a tally takes and yields was moved in one go, and what that leaves
 abbrev pub MovedAtOnce : NetMeaning → Tally → ℕ → Bool → Marking → ℕ → Marking → ℕ → Type 0

@@ -5,10 +5,11 @@ ghost use Rattle.std.specs.Prelude.{◌≡◌, ℕ, ◌+◌, ◌-◌, ◌≤◌,
 ghost use Rattle.answers.specs.States.{yields_of};
 ghost use Rattle.firings.specs.Moves.{can_move, Moved};
 
-pub mod whole_order;
+mod whole_order;
 
-use boards::board::Board;
-use nets::net::Net;
+use boards::Board;
+use nets::Net;
+pub use whole_order::move_order;
 
 /// Puts the yields of a step down, lowest place first, so that every board fills alike.
 fn put_yields<N: Net, B: Board>(net: &N, board: &mut B, step: u16)

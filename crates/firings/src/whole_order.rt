@@ -1,6 +1,6 @@
 //! A whole order moved on a board.
 ghost use Rattle.std.specs.Prelude.{◌≡◌, ◌+◌, ◌-◌, ◌≤◌, length};
-ghost use Rattle.answers.specs.Calls.{yields_in};
+ghost use Rattle.answers.specs.Calls.{order_yields};
 ghost use Rattle.answers.specs.States.{yields_asked};
 ghost use Rattle.firings.specs.Moves.{MovedBy, MovedAtOnce};
 ghost use Rattle.theory.specs.Firing.{CanFire, after};
@@ -8,9 +8,9 @@ ghost use Rattle.theory.specs.Rows.{at};
 ghost use Rattle.theory.specs.Tallies.{Realizes, steps_asked};
 
 use crate::move_ready;
-use boards::board::Board;
-use nets::net::Net;
-use totals::flow::Flow;
+use boards::Board;
+use nets::Net;
+use tallies::Flow;
 
 /// So few steps are sooner moved one by one than all places at once.
 const FEW_STEPS: usize = 64;
@@ -18,7 +18,7 @@ const FEW_STEPS: usize = 64;
 /// Moves an order step by step, where it can be fired and spare holds all that it yields.
 fn move_each<N: Net, B: Board>(net: &N, board: &mut B, order: &[u16])
     requires fires { CanFire (N.net net.now) (B.counts board.old) order.now }
-    requires room { yields_in (N.net net.now) order.now ≤ B.spare board.old }
+    requires room { order_yields (N.net net.now) order.now ≤ B.spare board.old }
     ensures { MovedBy (N.net net.now) order.now (B.counts board.old) (B.spare board.old) (B.counts board.new) (B.spare board.new) }
 {
     for step in order {

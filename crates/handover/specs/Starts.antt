@@ -3,5 +3,5 @@ use Rattle.std.specs.Prelude.{◌≡◌, ℕ, ◌<◌, List}
 use Rattle.theory.specs.Rows.{at}
 
 -- the counts at the 64 places are the start's, and 0 past its end
-abbrev pub Shows : List ℕ → (ℕ → ℕ) → Type 0
-Shows start counts = (p : ℕ) → p < 64 → counts p ≡ at start p
+abbrev pub ShowsStart : List ℕ → (ℕ → ℕ) → Type 0
+ShowsStart start counts = (p : ℕ) → p < 64 → counts p ≡ at start p

@@ -7,9 +7,9 @@ use crate::lines::{Line, Sizes, Yield};
 use crate::net_file::NetFile;
 use crate::piles::SecondBoard;
 use crate::words::{code, words};
+use answers::{DONE_LIMIT, FINDINGS_NEEDED};
 use anyhow::anyhow;
-use checks::{DONE_LIMIT, FINDINGS_NEEDED};
-use handovers::owned_calls::OwnedCall;
+use handovers::OwnedCall;
 use std::alloc::Global;
 
 /// How many entries memory has before a line says another number: as many as any order has, and as many

@@ -2,8 +2,8 @@
 use crate::faults::Fault;
 use crate::words::{number_of, numbers_of, only_number};
 use answers::Kind;
-use boards::board::LAST_PLACE;
-use handovers::owned_calls::{OwnedCall, OwnedRequest};
+use boards::LAST_PLACE;
+use handovers::{OwnedCall, OwnedRequest};
 use std::alloc::Global;
 
 /// How many blocks a step puts down at a place.

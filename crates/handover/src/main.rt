@@ -10,12 +10,11 @@ mod piles;
 mod report;
 mod words;
 
-use command_line::arguments::{only_source, words};
-use command_line::endings::{Failure, end};
+use command_line::{Failure, end, only_source, words};
 use day::Day;
 use faults::Unfit;
-use handovers::transcripts::transcribe;
-use nets::grid::GridNet;
+use handovers::transcribe;
+use nets::GridNet;
 use options::{PROGRAM, command};
 use piles::{Pile, first_board};
 use report::{Outcome, show};

@@ -1,16 +1,14 @@
 //! The boards that a day and its hand-over begin on.
 ghost use Rattle.std.specs.Prelude.{◌≡◌, ℕ, ◌+◌, ◌-◌, ◌<◌, IfOk, OnOk, slice_index};
 ghost use Rattle.boards.specs.Rows.{at_place};
-ghost use Rattle.handover.specs.Starts.{Shows};
+ghost use Rattle.handover.specs.Starts.{ShowsStart};
 ghost use Rattle.layers.specs.Renamings.{renamed};
 ghost use Rattle.slot_board.specs.Slots.{counts_of};
 ghost use Rattle.theory.specs.Rows.{at};
 
 use crate::faults::Unfit;
-use boards::board::{Board, LAST_PLACE, PLACES};
-use boards::count_board::CountBoard;
-use layers::allowance::Allowance;
-use layers::renaming::Renaming;
+use boards::{Board, CountBoard, LAST_PLACE, PLACES};
+use layers::{Allowance, Renaming};
 use refusals::Refusal;
 use slot_board::SlotBoard;
 use std::array;
@@ -30,7 +28,7 @@ pub(crate) struct SecondBoard {
 
 /// A slot board with the start on it.
 pub(crate) fn first_board(start: &[u32]) -> Result<SlotBoard, Unfit>
-    ensures { IfOk result (λ b. Shows start.now (counts_of b.slots)) }
+    ensures { IfOk result (λ b. ShowsStart start.now (counts_of b.slots)) }
 {
     let mut board = SlotBoard::new();
     lay_out(&mut board, start).map_err(Unfit::FirstBoard)?;
@@ -40,7 +38,7 @@ pub(crate) fn first_board(start: &[u32]) -> Result<SlotBoard, Unfit>
 impl SecondBoard {
     /// A renaming over an allowance over a count board, with the start on it.
     pub(crate) fn with(&self, start: &[u32]) -> Result<Pile, Unfit>
-        ensures { IfOk result (λ b. Shows start.now (renamed b.row (at_place b.below.below.counts))) }
+        ensures { IfOk result (λ b. ShowsStart start.now (renamed b.row (at_place b.below.below.counts))) }
     {
         self.pile(start).map_err(Unfit::SecondBoard)
     }
@@ -56,7 +54,7 @@ impl SecondBoard {
     }
 
     fn pile(&self, start: &[u32]) -> Result<Pile, Refusal>
-        ensures { IfOk result (λ b. Shows start.now (renamed b.row (at_place b.below.below.counts))) }
+        ensures { IfOk result (λ b. ShowsStart start.now (renamed b.row (at_place b.below.below.counts))) }
     {
         let blocks = start
             .iter()

@@ -3,11 +3,10 @@ ghost use Rattle.std.specs.Prelude.{◌≡◌, MatchBool};
 ghost use Rattle.theory.specs.Laws.{AgreeBelow};
 
 use answers::{Cause, Finding};
-use boards::board::Board;
-use command_line::names::one_line;
-use handovers::owned_calls::{OwnedAnswer, OwnedDone};
-use handovers::transcripts::Transcript;
-use nets::net::Net;
+use boards::Board;
+use command_line::one_line;
+use handovers::{OwnedAnswer, OwnedDone, Transcript};
+use nets::Net;
 use std::{fmt, io};
 
 /// Numbers with a space before each.

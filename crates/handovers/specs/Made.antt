@@ -3,14 +3,13 @@ use Rattle.std.specs.Prelude.{◌≡◌, ℕ, List, [], ◌∷◌, length, map, 
 use Rattle.refusals.specs.declared.Refusal.{Refusal}
 use Rattle.theory.specs.Nets.{NetMeaning}
 use Rattle.answers.specs.declared.Finding.{Finding}
-use Rattle.answers.specs.States.{State}
+use Rattle.answers.specs.States.{State, target_of}
 use Rattle.answers.specs.Answers.{written, order_memory}
 use Rattle.answers.specs.Findings.{findings_memory}
 use Rattle.answers.specs.Calls as answers
 use Rattle.answers.specs.Calls.{answer_to, answers_to, after_call, after_calls}
 use Rattle.answers.specs.Calls.Call.{fire, resume, survey}
 use Rattle.answers.specs.Calls.Answer.{refused, fired_once, order_written, findings_listed}
-use Rattle.checks.specs.Held.{target_of}
 use Rattle.handovers.specs.declared.sitting_calls.Call.{Call}
 use Rattle.handovers.specs.declared.sitting_calls.Call.TheVariants.{Fire, Resume, Survey}
 use Rattle.handovers.specs.declared.sitting_calls.Done.{Done}

@@ -4,8 +4,7 @@ ghost use Rattle.handovers.specs.Performed.{findings_size, order_size, owned_cal
 ghost use Rattle.std.specs.Prelude.{◌≡◌};
 
 use crate::sitting_calls::{Call, Request};
-use answers::Finding;
-use checks::Target;
+use answers::{Finding, Target};
 use refusals::Refusal;
 
 /// What a resume or a survey is given: a tally, a target and how many entries its memory has.

@@ -1,11 +1,9 @@
 //! A hand-over whose calls are a fire, a refused fire and a resume.
-use crate::hand_over::hand_over;
+use crate::second_sitting::hand_over;
 use crate::sitting_calls::{Call, Done, Memory, Request};
-use answers::{Cause, Finding};
-use boards::board::{Board, PLACES};
-use boards::count_board::CountBoard;
-use checks::Target;
-use nets::grid::GridNet;
+use answers::{Cause, Finding, Target};
+use boards::{Board, CountBoard, PLACES};
+use nets::GridNet;
 use refusals::Refusal;
 use std::process::Abort;
 

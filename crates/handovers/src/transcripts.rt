@@ -1,20 +1,18 @@
 //! A hand-over with all that was said kept, for the programs that print it.
-ghost use Rattle.answers.specs.States.{new_on};
-ghost use Rattle.checks.specs.Held.{held};
+ghost use Rattle.answers.specs.States.{new_on, state_of};
 ghost use Rattle.handovers.specs.HandedOver.{counters_of};
 ghost use Rattle.handovers.specs.Performed.{Kept, owned_call, said_of};
 ghost use Rattle.handovers.specs.Transcripts.{Transcribed};
-ghost use Rattle.sittings.specs.Held.{held_by};
+ghost use Rattle.sittings.specs.Sittings.{sitting_state};
 ghost use Rattle.std.specs.Prelude.{IfOk, map};
 ghost use Rattle.theory.specs.Rows.{at};
 
-use crate::hand_over::replay;
 use crate::owned_calls::{OwnedAnswer, OwnedCall};
 use crate::perform::{kept, perform_all};
-use boards::board::{Board, PLACES};
-use calls::all_counts;
-use nets::net::Net;
-use sittings::sitting::{DONE_COUNTS, Sitting};
+use crate::second_sitting::replay;
+use boards::{Board, PLACES, all_counts};
+use nets::Net;
+use sittings::{DONE_COUNTS, Sitting};
 use std::alloc::{AllocError, Global};
 
 /// What was said on both sittings of a hand-over, and what they hold at the end.
@@ -42,8 +40,8 @@ fn replay_kept<N: Net + Drop, C: Board + Drop>(
     memory: usize,
 ) -> Result<(OwnedAnswer, Sitting<N, C>), AllocError>
     ensures { IfOk result (λ h.
-        let counters = counters_of (N.net net) (held (at marking.now) 0 done.now) memory in
-        Kept (N.net net) (new_on (C.counts board) (C.spare board)) counters (said_of h.0) (held_by C.Board h.1)) }
+        let counters = counters_of (N.net net) (state_of (at marking.now) 0 done.now) memory in
+        Kept (N.net net) (new_on (C.counts board) (C.spare board)) counters (said_of h.0) (sitting_state C.Board h.1)) }
 {
     let mut order = vec![in alloc; 0u16; memory]?;
     let (told, second) = replay(net, board, done, marking, order.as_mut_slice());
@@ -63,8 +61,8 @@ pub fn transcribe<N: Net + Drop, B: Board + Drop, C: Board + Drop>(
     ensures transcribed { IfOk result (λ h.
         let start = new_on (B.counts first) (B.spare first) in
         let other = new_on (C.counts second) (C.spare second) in
-        let left = held (B.counts h.board) (B.spare h.board) h.done in
-        Transcribed (N.net net) start other (map owned_call calls.now) memory (map said_of h.said.items) left (said_of h.replay) (held_by C.Board h.second)) }
+        let left = state_of (B.counts h.board) (B.spare h.board) h.done in
+        Transcribed (N.net net) start other (map owned_call calls.now) memory (map said_of h.said.items) left (said_of h.replay) (sitting_state C.Board h.second)) }
 {
     let mut sitting = Sitting::new(net, first);
     let said = perform_all(alloc, &mut sitting, calls)?;

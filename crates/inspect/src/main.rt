@@ -4,12 +4,8 @@
 mod options;
 mod table;
 
-use command_line::arguments::{sources, words};
-use command_line::endings::{Failure, end, say};
-use command_line::files::Source;
-use nets::chained::ChainedNet;
-use nets::grid::GridNet;
-use nets::net::Net;
+use command_line::{Failure, Source, end, say, sources, words};
+use nets::{ChainedNet, GridNet, Net};
 use options::{PROGRAM, command};
 use refusals::Refusal;
 use std::io;

@@ -1,5 +1,5 @@
 //! A net as a table: each step, its input and its yields.
-use nets::net::Net;
+use nets::Net;
 use std::alloc::{AllocError, Global};
 use std::fmt::Write;
 use std::io;

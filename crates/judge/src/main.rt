@@ -5,9 +5,7 @@ mod name_lists;
 mod options;
 mod verdicts;
 
-use command_line::arguments::{sources, words};
-use command_line::endings::{Failure, end};
-use command_line::files::Source;
+use command_line::{Failure, Source, end, sources, words};
 use options::{PROGRAM, command};
 use std::io;
 use std::io::{BufWriter, Write};

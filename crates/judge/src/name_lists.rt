@@ -1,8 +1,7 @@
 //! Lists of names, each ended by a zero byte.
 use crate::options::PROGRAM;
 use crate::verdicts::Verdicts;
-use command_line::endings::Failure;
-use command_line::files::{Source, Unread};
+use command_line::{Failure, Source, Unread};
 use std::alloc::{AllocError, Global};
 use std::io::Write;
 

@@ -1,8 +1,7 @@
 //! What is said of each sheet.
 use crate::options::PROGRAM;
-use command_line::endings::{Failure, say};
-use command_line::files::{Source, Unread};
-use sheet_lines::line_of;
+use command_line::{Failure, Source, Unread, say};
+use sheets::line_of;
 use std::io::{BufWriter, Write};
 
 /// How much of a sheet is read: a byte more than any sheet has. A longer one is refused for its length where its head

@@ -2,11 +2,11 @@
 use Rattle.std.specs.Prelude.{◌≡◌, ℕ, ◌+◌, ◌-◌, ◌<◌, ◌≤◌, ◌⊎◌, Ok, Err, Result}
 use Rattle.refusals.specs.declared.Refusal.{Refusal}
 use Rattle.refusals.specs.declared.Refusal.TheVariants.{NoSuchPlace, PlaceEmpty}
-use Rattle.boards.specs.Boards.{at}
+use Rattle.boards.specs.Boards.{only_at}
 
 -- the counts with one block moved
 abbrev pub moved : ℕ → ℕ → (ℕ → ℕ) → ℕ → ℕ
-moved from to counts p = counts p - at from p 1 + at to p 1
+moved from to counts p = counts p - only_at from p 1 + only_at to p 1
 
 -- both places are on the board, and there is a block to move
 pub record CanMove (from to : ℕ) (counts : ℕ → ℕ) : Type 0 where

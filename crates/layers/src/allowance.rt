@@ -5,7 +5,7 @@ ghost use Rattle.theory.specs.Rows.{at};
 ghost use Rattle.layers.specs.Allowances.{left_after_take, left_after_put, left_after_move_all, PutLeaves};
 ghost use Rattle.std.proofs.Common.{rules, arith};
 
-use boards::board::{BOARD_LIMIT, Board, PLACES, index_of, raised_and_lowered};
+use boards::{BOARD_LIMIT, Board, PLACES, index_of, raised_and_lowered};
 use refusals::Refusal;
 
 /// A board over another that grants less room: for `left` blocks more, or for what still fits below if that is less.

@@ -4,7 +4,7 @@ ghost use Rattle.layers.specs.Piles.{MoveSays, MoveAnswers, counts_after_move};
 
 use crate::allowance::Allowance;
 use crate::renaming::Renaming;
-use boards::board::{Board, index_of};
+use boards::{Board, index_of};
 use refusals::Refusal;
 
 /// Moves one block from one place of a board to another. Refused: `NoSuchPlace`, else `PlaceEmpty` for place `from`.

@@ -8,7 +8,7 @@ ghost use Rattle.std.proofs.lemmas.Bool.{cond-true, lt-ltb};
 ghost use Rattle.theory.proofs.SumLaws.{sum_to_same};
 ghost use Rattle.layers.specs.Permuted.{sum_to_permuted};
 
-use boards::board::{Board, PLACES, index_of};
+use boards::{Board, PLACES, index_of};
 use refusals::Refusal;
 use std::array;
 

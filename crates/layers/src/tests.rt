@@ -1,8 +1,7 @@
 //! Many moves in one go on a renaming over an allowance over a count board, worked out by hand.
 use crate::allowance::Allowance;
 use crate::renaming::Renaming;
-use boards::board::{Board, PLACES};
-use boards::count_board::CountBoard;
+use boards::{Board, CountBoard, PLACES};
 use refusals::Refusal;
 use std::array;
 use std::process::Abort;

@@ -4,8 +4,8 @@ use Rattle.std.proofs.lemmas.Bool.{cases_Bool, cases_lt, ltb-true, lt-ltb, le-lt
 use Rattle.std.proofs.lemmas.Bool.Decides.{same_from_decides}
 use Rattle.theory.specs.Nets.{NetMeaning, NetLaw}
 use Rattle.theory.specs.Firing.{Marking}
-use Rattle.theory.specs.Tallies.{Tally, Reached}
-use Rattle.theory.specs.Tallies.Reached.{marked, through}
+use Rattle.theory.specs.Tallies.{Tally, IsReached}
+use Rattle.theory.specs.Tallies.IsReached.{marked, through}
 use Rattle.theory.specs.Tests.{any_below, in_subnet, is_reached, is_cut_off}
 use Rattle.theory.proofs.ReachRounds.{any_find, any_from, reached_decided}
 use Rattle.theory.proofs.Realized.{reached_fold}
@@ -33,18 +33,18 @@ module _ (N : NetMeaning) (law : NetLaw N) (m : Marking) (x : Tally) (leads : �
     within : ℕ → Bool
     within p = ltb p N.places && is_reached N m x p
 
-    inside : (p : ℕ) → p < N.places → Reached N m x p → within p ≡ true
+    inside : (p : ℕ) → p < N.places → IsReached N m x p → within p ≡ true
     unfolding within
     inside p k r = and_from (ltb p N.places) (is_reached N m x p) (lt-ltb p N.places k) ((reached_decided N law.inputs_inside m x p k).1 r)
 
-    told : (p : ℕ) → within p ≡ true → (p < N.places) × Reached N m x p
+    told : (p : ℕ) → within p ≡ true → (p < N.places) × IsReached N m x p
     unfolding within
     told p e =
         let a = and_parts (ltb p N.places) (is_reached N m x p) e in
         let k = ltb-true p N.places a.0 in
         (k, (reached_decided N law.inputs_inside m x p k).0 a.1)
 
-    led_reached : (p : ℕ) → Led leads first p → (p < N.places) × Reached N m x p
+    led_reached : (p : ℕ) → Led leads first p → (p < N.places) × IsReached N m x p
     led_reached p led =
         told p (led within
         (λ p h.
@@ -58,9 +58,9 @@ module _ (N : NetMeaning) (law : NetLaw N) (m : Marking) (x : Tally) (leads : �
         let b = and_parts (ltb 0 (x t)) (eqb (N.input t) q) a.0 in
         let y : 0 < N.yields t p = ltb-true 0 (N.yields t p) a.1 in
         inside p (yields_inside N law t p y)
-        (through t w.1 (ltb-true 0 (x t) b.0) (subst (Reached N m x) (sym (eqb-true (N.input t) q b.1)) r.1) y)))
+        (through t w.1 (ltb-true 0 (x t) b.0) (subst (IsReached N m x) (sym (eqb-true (N.input t) q b.1)) r.1) y)))
 
-    reached_led : (p : ℕ) → Reached N m x p → p < N.places → Led leads first p
+    reached_led : (p : ℕ) → IsReached N m x p → p < N.places → Led leads first p
     reached_led =
         reached_fold N m x (λ p. p < N.places → Led leads first p)
         (λ p h k. led_first leads first p (f p ∙ and_from (ltb p N.places) (ltb 0 (m p)) (lt-ltb p N.places k) (lt-ltb 0 (m p) h)))
@@ -73,7 +73,7 @@ module _ (N : NetMeaning) (law : NetLaw N) (m : Marking) (x : Tally) (leads : �
         (and_from (ltb 0 (x t)) (eqb q q) (lt-ltb 0 (x t) h) (eq-eqb q q refl)) (lt-ltb 0 (N.yields t p) y))))
 
     -- a place of the net is led to exactly if it is reached
-    pub led_decides : (r : Bool) (p : ℕ) → p < N.places → Decides r (Led leads first p) → Decides r (Reached N m x p)
+    pub led_decides : (r : Bool) (p : ℕ) → p < N.places → Decides r (Led leads first p) → Decides r (IsReached N m x p)
     led_decides r p k d = (λ e. (led_reached p (d.0 e)).1, λ h. d.1 (reached_led p h k))
 
 -- CUT-OFF PLACES

@@ -2,8 +2,8 @@
 use Rattle.std.proofs.Common.{not, ◌≡◌, ℕ, ◌<◌, ◌≤◌, Bool, true, false, ◌&&◌, ◌||◌, eqb, List, length, replicate, set, ap, ◌∙◌, subst, sym, refl, inl, inr, arith}
 use Rattle.std.proofs.lemmas.List.{get_or-set_same, get_or-set_other, get_or-replicate, get_or_past, length-replicate}
 use Rattle.std.proofs.lemmas.Bool.{cases_lt, cases_eq, eq-eqb, ne_eqb}
-use Rattle.place_sets.specs.Flags.{has}
-use Rattle.place_sets.proofs.FlagLaws.{has_none}
+use Rattle.sets.specs.Flags.{has}
+use Rattle.sets.proofs.FlagLaws.{has_none}
 use Rattle.reached.specs.Led.{has_at}
 
 -- past the end of a row no set has anything

@@ -1,6 +1,6 @@
 -- The places that are led to from some places.
 use Rattle.std.specs.Prelude.{◌≡◌, ℕ, Bool, true, List, ◌==◌}
-use Rattle.place_sets.specs.Flags.{has}
+use Rattle.sets.specs.Flags.{has}
 use Rattle.theory.specs.Rows.{at}
 
 -- p is in set i of the row; nothing is in a set past its end

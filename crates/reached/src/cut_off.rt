@@ -1,13 +1,13 @@
 //! The places that are cut off.
 ghost use Rattle.std.specs.Prelude.{◌≡◌, ℕ, ◌&&◌, nat_lt};
-ghost use Rattle.place_sets.specs.Flags.{has};
+ghost use Rattle.sets.specs.Flags.{has};
 ghost use Rattle.theory.specs.Rows.{at};
 ghost use Rattle.theory.specs.Tests.{in_subnet, is_cut_off};
 
 use crate::leads::{input_asked, leads_of, marked_in};
 use crate::search::reached_from;
-use nets::net::Net;
-use place_sets::PlaceSet;
+use nets::Net;
+use sets::PlaceSet;
 
 /// The places that the tally uses and no block can come to.
 pub fn cut_off_places<N: Net>(net: &N, counts: &[u32], tally: &[u16]) -> PlaceSet

@@ -1,12 +1,12 @@
 //! What the steps of a tally lead to at once.
 ghost use Rattle.std.specs.Prelude.{◌≡◌, ℕ, ◌<◌, ◌&&◌, nat_lt, MatchOption};
-ghost use Rattle.place_sets.specs.Flags.{has};
+ghost use Rattle.sets.specs.Flags.{has};
 ghost use Rattle.reached.specs.Led.{has_at};
 ghost use Rattle.reached.specs.Leads.{leads_to};
 ghost use Rattle.theory.specs.Rows.{at};
 
-use nets::net::{MOST_PLACES, Net};
-use place_sets::PlaceSet;
+use nets::Net;
+use sets::{MOST_PLACES, PlaceSet};
 
 /// The input of a step that the tally asks for.
 pub fn input_asked<N: Net>(net: &N, tally: &[u16], step: u16) -> Option<u8>

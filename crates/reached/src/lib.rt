@@ -1,7 +1,11 @@
 //! Reached places: where blocks can come to by the steps of a tally, where from, and which places are cut off.
 #![tactic(auto)]
 
-pub mod cut_off;
-pub mod leads;
-pub mod origins;
+mod cut_off;
+mod leads;
+mod origins;
 mod search;
+
+pub use cut_off::cut_off_places;
+pub use leads::marked_in;
+pub use origins::Origins;

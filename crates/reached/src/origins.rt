@@ -1,12 +1,11 @@
 //! Where each place is reached from.
 ghost use Rattle.std.specs.Prelude.{◌≡◌, ℕ, ◌<◌, ◌≤◌, true, false, not, ◌&&◌, ◌||◌, ◌==◌, Decides, length};
-ghost use Rattle.place_sets.specs.Flags.{has};
+ghost use Rattle.sets.specs.Flags.{has};
 ghost use Rattle.reached.specs.Led.{OtherOrigin, has_at};
 ghost use Rattle.theory.specs.Rows.{at};
 
 use crate::search::reached_from;
-use nets::net::MOST_PLACES;
-use place_sets::PlaceSet;
+use sets::{MOST_PLACES, PlaceSet};
 
 /// The places from which each place is reached: at once, and over any others. What a search found is kept until a
 /// place is lost as an origin, so that the same place can be asked for often.

@@ -1,10 +1,9 @@
 //! The places that are reached, by one search over the words of flags.
 ghost use Rattle.std.specs.Prelude.{ℕ, Decides};
-ghost use Rattle.place_sets.specs.Flags.{has};
+ghost use Rattle.sets.specs.Flags.{has};
 ghost use Rattle.reached.specs.Led.{Led, has_at};
 
-use nets::net::MOST_PLACES;
-use place_sets::PlaceSet;
+use sets::{MOST_PLACES, PlaceSet};
 
 /// The given places, and all that they lead to; `leads` has for each place where it leads at once.
 pub(crate) fn reached_from(first: PlaceSet, leads: &[PlaceSet; MOST_PLACES]) -> PlaceSet

@@ -3,10 +3,10 @@
 #![tactic(auto)]
 
 use anyhow::anyhow;
-use comparisons::comparison::Comparison;
-use rows::file_of;
-use sheet_lines::line_of;
+use comparisons::Comparison;
+use sheets::line_of;
 use std::io::{BufRead, BufReader};
+use words::file_of;
 
 /// Compares one line of the table with the line of its sheet, and prints it where it differs.
 fn compare(rt: &HostRuntime, comparison: &mut Comparison, line: &str) -> anyhow::Result<()> {

@@ -9,12 +9,14 @@ ghost use Rattle.sheets.specs.Judged.{Judged};
 ghost use Rattle.sheets.specs.Verdicts.{longest_line, sheet_line};
 ghost use Rattle.std.specs.Prelude.{◌≤◌, length, IsOk};
 
+mod line;
 mod memory;
 mod parts;
 mod rows;
 mod sheet;
 mod verdict;
 
+pub use line::line_of;
 use lines::{write_order, write_refusal};
 use memory::{FEW_ENTRIES, ORDER_ENTRIES, asks_few};
 use refusals::Refusal;

@@ -1,10 +1,10 @@
 //! What the lines of the table ask for.
 use anyhow::bail;
-use boards::board::PLACES;
-use rows::{bytes_of, numbers, slots_of};
+use boards::PLACES;
 use std::alloc::Global;
 use std::num::ParseIntError;
 use std::str::FromStr;
+use words::{bytes_of, numbers, slots_of};
 
 /// What a resume or a survey is given, and how long its memory is.
 #[derive(Drop)]

@@ -11,14 +11,10 @@ mod table;
 
 use anyhow::bail;
 use asked::{Asked, read};
-use boards::board::Board;
-use boards::count_board::CountBoard;
-use calls::{Answer, all_counts};
-use comparisons::comparison::{Line, compare_all, next_line};
-use comparisons::digest::Digest;
-use nets::chained::ChainedNet;
-use nets::grid::GridNet;
-use nets::net::Net;
+use board_calls::Answer;
+use boards::{Board, CountBoard, all_counts};
+use comparisons::{Digest, Line, compare_all, next_line};
+use nets::{ChainedNet, GridNet, Net};
 use on_pile::{Full, OnPile, Under};
 use refusals::Refusal;
 use slot_board::SlotBoard;

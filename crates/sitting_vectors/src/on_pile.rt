@@ -4,12 +4,11 @@ ghost use Rattle.std.specs.Prelude.{◌≤◌, length, IfOk};
 use crate::asked::{Asked, read};
 use crate::performed::sit;
 use crate::table::Table;
-use boards::board::Board;
-use calls::Answer;
-use comparisons::comparison::Line;
-use layers::allowance::Allowance;
-use layers::renaming::Renaming;
-use nets::net::Net;
+use board_calls::Answer;
+use boards::Board;
+use comparisons::Line;
+use layers::{Allowance, Renaming};
+use nets::Net;
 use std::marker::PhantomData;
 
 /// What a pile makes of lines, by how many layers it still takes; gives the board back, and the lines

@@ -3,15 +3,13 @@ ghost use Rattle.std.specs.Prelude.{◌≤◌, length, IfOk};
 
 use crate::asked::{Asked, Request, read};
 use crate::table::Table;
-use answers::{Cause, Finding};
-use boards::board::Board;
-use calls::{Answer, all_counts};
-use checks::Target;
-use comparisons::comparison::{Line, next_line};
-use comparisons::digest::Digest;
-use nets::net::Net;
+use answers::{Cause, Finding, Target};
+use board_calls::Answer;
+use boards::{Board, all_counts};
+use comparisons::{Digest, Line, next_line};
+use nets::Net;
 use refusals::Refusal;
-use sittings::sitting::Sitting;
+use sittings::Sitting;
 use std::alloc::{AllocError, Global};
 
 /// All lines of a sitting, from the one that begins it to the last call; gives the board back, and the

@@ -1,5 +1,5 @@
 //! How many calls were made, and how they were answered.
-use comparisons::outcomes::{Outcomes, Refused};
+use comparisons::{Outcomes, Refused};
 use refusals::Refusal;
 use std::alloc::{AllocError, Global};
 use std::io;

@@ -1,8 +1,7 @@
 //! The table, and how far its lines agree with what is answered here.
 use crate::summary::Totals;
-use calls::Answer;
-use comparisons::comparison::{Comparison, Line};
-use comparisons::digest::Digest;
+use board_calls::Answer;
+use comparisons::{Comparison, Digest, Line};
 use std::alloc::Global;
 use std::io;
 

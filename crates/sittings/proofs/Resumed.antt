@@ -7,7 +7,7 @@ use Rattle.theory.specs.Tallies.{Tally}
 use Rattle.answers.specs.States.{State, Target}
 use Rattle.answers.specs.Answers.{unless, resume_refusal, after_resume}
 use Rattle.answers.specs.Reasons.{ResumeFits}
-use Rattle.orders.specs.Fired.{Fired}
+use Rattle.sittings.specs.Fired.{Fired}
 use Rattle.answers.proofs.Answered.{refused_with, accepted_with}
 use Rattle.answers.proofs.Resumes.{fits_now}
 use Rattle.sittings.proofs.States.{state_path}

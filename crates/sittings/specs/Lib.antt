@@ -1,1 +1,2 @@
-pub mod Held
+pub mod Fired
+pub mod Sittings

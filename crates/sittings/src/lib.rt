@@ -1,6 +1,8 @@
-//! Sittings: what one person does with a net on a board, by single steps and by whole tallies.
+//! Sittings: one net, one board and one done row, with the calls fire, resume and survey.
 #![tactic(auto)]
 
 mod done_rows;
-mod methods;
-pub mod sitting;
+mod sitting;
+mod tally;
+
+pub use sitting::{DONE_COUNTS, Sitting};

@@ -14,6 +14,6 @@ pub record BytesRefused (bytes : List ℕ) (e : Refusal) : Type 0 where
   pub named : e ≡ BoardRowUnfit
 
 -- what load answers, from the slots before it to the slots after it
-abbrev pub LoadSays : {X : Type 0} → List ℕ → List ℕ → Result X Refusal → List ℕ → Type 0
-LoadSays bytes slots (Ok x) slots' = SlotsFit bytes × (slots' ≡ bytes)
-LoadSays bytes slots (Err e) slots' = BytesRefused bytes e × (slots' ≡ slots)
+abbrev pub SlotLoadSays : {X : Type 0} → List ℕ → List ℕ → Result X Refusal → List ℕ → Type 0
+SlotLoadSays bytes slots (Ok x) slots' = SlotsFit bytes × (slots' ≡ bytes)
+SlotLoadSays bytes slots (Err e) slots' = BytesRefused bytes e × (slots' ≡ slots)

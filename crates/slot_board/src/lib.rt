@@ -5,12 +5,12 @@ ghost use Rattle.std.specs.Prelude.{◌≡◌, ℕ, ◌+◌, ◌≤◌, length, 
 ghost use Rattle.boards.specs.Boards.{TakeSays, PutSays};
 ghost use Rattle.slot_board.specs.Slots.{occurs, counts_of, lowest_with, slots_after_take, slots_after_put};
 ghost use Rattle.slot_board.specs.Passes.{Absent, FirstAt, HighestFilled, TakenSlot, PutSlots};
-ghost use Rattle.slot_board.specs.Loads.{SlotsFit, LoadSays};
+ghost use Rattle.slot_board.specs.Loads.{SlotsFit, SlotLoadSays};
 ghost use Rattle.refusals.specs.declared.Refusal.TheVariants.{PlaceEmpty};
 ghost use Rattle.std.proofs.Common.{arith};
 ghost use Rattle.slot_board.specs.Occurs.{occurs_absent, all_le_length};
 
-use boards::board::{Board, LAST_PLACE, index_of};
+use boards::{Board, LAST_PLACE, index_of};
 use refusals::Refusal;
 
 /// How many slots there are, numbered from 0.
@@ -51,7 +51,7 @@ impl SlotBoard {
     /// Sets all slots by their bytes, slot 0 first. Refused: `BoardRowUnfit`, with the board as it was, where there
     /// are fewer or more than 4,096 bytes, or one stands for no place.
     pub fn load(&mut self, bytes: &[u8]) -> Result<(), Refusal>
-        ensures answer { LoadSays bytes.now (slot_bytes self.old) result (slot_bytes self.new) }
+        ensures answer { SlotLoadSays bytes.now (slot_bytes self.old) result (slot_bytes self.new) }
     {
         let slots = <&[u8; SLOTS]>::try_from(bytes).map_err(|_| Refusal::BoardRowUnfit)?;
         if !fit(slots) {
@@ -127,8 +127,6 @@ fn fill_highest(slots: &mut [u8], place: u8, n: u32)
 
 // `move_all` stays the trait's, which says no: which slots are filled depends on the sequence of takes and puts
 impl Board for SlotBoard {
-    ghost use Rattle.slot_board.specs.Shown.{slot_bytes};
-
     ghost counts = { λ b. counts_of b.slots };
 
     ghost spare = { λ b. occurs 0 b.slots };

@@ -5,10 +5,10 @@ use Rattle.std.proofs.lemmas.Bool.{cases_eq, cases_lt, cases_Bool, both_ways, an
 use Rattle.std.proofs.lemmas.Bool.Decides.{Decides-and, Decides-or, Decides-not, Decides-ltb, Decides-eqb, Decides-like}
 use Rattle.theory.specs.Nets.{NetMeaning, InputsInside}
 use Rattle.theory.specs.Firing.{Marking, fired}
-use Rattle.theory.specs.Tallies.{Tally, spent, gained, Short, InSubnet, Reached, IsCutOff, NoPlaceShort, NoPlaceCutOff}
-use Rattle.theory.specs.Tallies.Reached.{through}
+use Rattle.theory.specs.Tallies.{Tally, spent, gained, IsShort, InSubnet, IsReached, IsCutOff, NoPlaceShort, NoPlaceCutOff}
+use Rattle.theory.specs.Tallies.IsReached.{through}
 use Rattle.theory.specs.Orders.{less}
-use Rattle.theory.specs.Tests.{any_below, all_below, least, is_short, in_subnet, is_reached, is_cut_off, no_place_short, no_place_cut_off, can_be_done, safe}
+use Rattle.theory.specs.Tests.{any_below, all_below, least, is_short, in_subnet, is_reached, is_cut_off, no_place_short, no_place_cut_off, can_be_done, is_safe}
 use Rattle.theory.specs.Laws.{DoneExactlyIf, SafeStepExists, ShortDecided, SubnetDecided, CutOffDecided, DoneDecided, SafeDecided, IsLeast, LeastFound, NoneFound}
 use Rattle.theory.proofs.Realized.{Enough, InputsReached, realizes_enough, realizes_reached}
 use Rattle.theory.proofs.SafeSteps.{doable, safe_step, keeps_safe}
@@ -58,7 +58,7 @@ cut_off_decided N inside m x p l =
 
 no_short_decided : (N : NetMeaning) (m : Marking) (x : Tally) → Decides (no_place_short N m x) (NoPlaceShort N m x)
 no_short_decided N m x =
-    decides_all (λ p. not (is_short N m x p)) (λ p. Short N m x p → ⊥) N.places
+    decides_all (λ p. not (is_short N m x p)) (λ p. IsShort N m x p → ⊥) N.places
     (λ p l. Decides-not (is_short N m x p) (short_decided N m x p))
 
 pub no_cut_off_decided : (N : NetMeaning) → InputsInside N → (m : Marking) (x : Tally) →
@@ -85,8 +85,8 @@ reached_from N inside m x none t l h =
       | inr e ↦ absurd (none p (inside t l) ((t, l, h, inl refl), λ r. both_ways (is_reached N m x p) e (d.1 r)))
     ]
 
-subnet_reached : (N : NetMeaning) (m : Marking) (x : Tally) → InputsReached N m x → (p : ℕ) → InSubnet N x p → Reached N m x p
-subnet_reached N m x c p (t, l, h, inl e) = subst (Reached N m x) e (c t l h)
+subnet_reached : (N : NetMeaning) (m : Marking) (x : Tally) → InputsReached N m x → (p : ℕ) → InSubnet N x p → IsReached N m x p
+subnet_reached N m x c p (t, l, h, inl e) = subst (IsReached N m x) e (c t l h)
 subnet_reached N m x c p (t, l, h, inr y) = through t l h (c t l h) y
 
 pub none_cut_off_from : (N : NetMeaning) (m : Marking) (x : Tally) → InputsReached N m x → NoPlaceCutOff N m x
@@ -116,7 +116,7 @@ safe_step_exists N inside m x short cut t l h =
 
 pub safe_decided : SafeDecided
 safe_decided N inside m x short t =
-    Decides-like (safe N m x t)
+    Decides-like (is_safe N m x t)
     (λ h. keeps_safe N inside m x (enough_from N m x short) t
     (h.0, h.1.0, h.1.1.0, reached_from N inside (fired N m t) (less x t) h.1.1.1))
     (λ h. (h.0, (h.1, (h.2, ((done_exactly_if N inside (fired N m t) (less x t)).0 h.3).1))))

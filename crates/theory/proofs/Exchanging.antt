@@ -2,8 +2,8 @@
 use Rattle.std.proofs.Common.{ℕ, ◌+◌, ◌-◌, ◌<◌, List, [], ◌∷◌, sym, ap, subst, arith}
 use Rattle.theory.specs.Nets.{NetMeaning, InputsInside}
 use Rattle.theory.specs.Firing.{Marking, one_at, fired, CanFire, after}
-use Rattle.theory.specs.Tallies.{Tally, Realizes, Reached}
-use Rattle.theory.specs.Tallies.Reached.{marked, through}
+use Rattle.theory.specs.Tallies.{Tally, Realizes, IsReached}
+use Rattle.theory.specs.Tallies.IsReached.{marked, through}
 use Rattle.theory.specs.Orders.{First}
 use Rattle.theory.specs.Tests.{first_order}
 use Rattle.theory.specs.Laws.{AgreeBelow, AgreeingExchanged}
@@ -31,9 +31,9 @@ module _ (N : NetMeaning) where
       realizes_like : (order : List ℕ) → Realizes N m x order → Realizes N m' x' order
       realizes_like order r = (can_fire_like order m m' e r.0, λ t l. omega (arith, r.1 t l, f t l))
 
-      reached_like : (p : ℕ) → Reached N m x p → p < N.places → Reached N m' x' p
+      reached_like : (p : ℕ) → IsReached N m x p → p < N.places → IsReached N m' x' p
       reached_like =
-          reached_fold N m x (λ q. q < N.places → Reached N m' x' q)
+          reached_fold N m x (λ q. q < N.places → IsReached N m' x' q)
           (λ q h l. marked (subst (λ (k : ℕ). 0 < k) (e q l) h))
           (λ t q l h r y _. through t l (subst (λ (k : ℕ). 0 < k) (f t l) h) (r (inside t l)) y)
 

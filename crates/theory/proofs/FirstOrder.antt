@@ -4,8 +4,8 @@ use Rattle.std.proofs.lemmas.Bool.{cases_order, both_ways}
 use Rattle.theory.specs.Nets.{NetMeaning, InputsInside}
 use Rattle.theory.specs.Firing.{Marking, fired}
 use Rattle.theory.specs.Tallies.{Tally, steps_asked, Realizes, Realizable, NoPlaceShort, NoPlaceCutOff}
-use Rattle.theory.specs.Orders.{Earlier, less, Safe, LeastSafeEachTime}
-use Rattle.theory.specs.Tests.{least, safe, followed, first_steps, first_order}
+use Rattle.theory.specs.Orders.{Earlier, less, IsSafe, LeastSafeEachTime}
+use Rattle.theory.specs.Tests.{least, is_safe, followed, first_steps, first_order}
 use Rattle.theory.specs.Laws.{LeastSafeIsFirst, ComputedIsLeastSafe, ComputedIsFirst, FirstIsOne, FirstOrderGoesOn, FirstOrderEnds, EarlierOneWay, EarlierGoesOn, EarlierCompares}
 use Rattle.theory.proofs.SumLaws.{le_sum_to, sum_to_none}
 use Rattle.theory.proofs.TallySums.{total_less, sum_find}
@@ -57,7 +57,7 @@ module _ (N : NetMeaning) where
       realizes_more N m x t ts g.0.0 g.0.1 g.0.2 (least_safe_realizes (fired N m t) (less x t) ts g.2)
 
   -- whatever an order that does the tally does first is safe
-  head_safe : (m : Marking) (x : Tally) (t : ℕ) (ts : List ℕ) → Realizes N m x (t ∷ ts) → Safe N m x t
+  head_safe : (m : Marking) (x : Tally) (t : ℕ) (ts : List ℕ) → Realizes N m x (t ∷ ts) → IsSafe N m x t
   head_safe m x t ts r = (r.0.0, first_counts N m x t ts r, r.0.1, (ts, rest_realizes N m x t ts r))
 
   least_safe_before : (m : Marking) (x : Tally) (order other : List ℕ) → LeastSafeEachTime N m x order →
@@ -88,26 +88,26 @@ first_steps_least : (N : NetMeaning) → InputsInside N → (n : ℕ) (m : Marki
 first_steps_least N inside zero m x e r = λ t l. omega (arith, le_sum_to x N.steps t l)
 first_steps_least N inside (suc n) m x e r =
     go (λ t k. first_steps_least N inside n (fired N m t) (less x t) (omega (arith, total_less x t N.steps k.0 k.1)) k.3)
-    (least (safe N m x) N.steps) refl
+    (least (is_safe N m x) N.steps) refl
   where
     both : NoPlaceShort N m x × NoPlaceCutOff N m x
     both = (done_exactly_if N inside m x).0 r
 
-    go : ((t : ℕ) → Safe N m x t → LeastSafeEachTime N (fired N m t) (less x t) (first_steps N (fired N m t) (less x t) n)) →
-        (o : Option ℕ) → least (safe N m x) N.steps ≡ o →
+    go : ((t : ℕ) → IsSafe N m x t → LeastSafeEachTime N (fired N m t) (less x t) (first_steps N (fired N m t) (less x t) n)) →
+        (o : Option ℕ) → least (is_safe N m x) N.steps ≡ o →
         LeastSafeEachTime N m x (followed o (λ t. first_steps N (fired N m t) (less x t) n))
     go rest None z =
         elim (sum_find x N.steps) [
           | inl w ↦
               let s = safe_step_exists N inside m x both.0 both.1 w.0 w.1 w.2 in
-              absurd (both_ways (safe N m x s.0) ((none_found (safe N m x) N.steps).0 z s.0 s.1.0)
+              absurd (both_ways (is_safe N m x s.0) ((none_found (is_safe N m x) N.steps).0 z s.0 s.1.0)
               ((safe_decided N inside m x both.0 s.0).1 s.1))
           | inr y ↦ absurd (omega arith)
         ]
     go rest (Some t) z =
-        let f = (least_found (safe N m x) N.steps t).0 z in
-        let k : Safe N m x t = (safe_decided N inside m x both.0 t).0 f.1 in
-        (k, λ u l s. both_ways (safe N m x u) (f.2 u l) ((safe_decided N inside m x both.0 u).1 s), rest t k)
+        let f = (least_found (is_safe N m x) N.steps t).0 z in
+        let k : IsSafe N m x t = (safe_decided N inside m x both.0 t).0 f.1 in
+        (k, λ u l s. both_ways (is_safe N m x u) (f.2 u l) ((safe_decided N inside m x both.0 u).1 s), rest t k)
 
 pub computed_is_least_safe : ComputedIsLeastSafe
 computed_is_least_safe N inside m x = first_steps_least N inside (steps_asked N x) m x refl

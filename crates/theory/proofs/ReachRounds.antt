@@ -5,8 +5,8 @@ use Rattle.std.proofs.lemmas.Bool.{cases_eq, cases_Bool, ltb-true, lt-ltb, or_ca
 use Rattle.theory.specs.Sums.{sum_to}
 use Rattle.theory.specs.Nets.{NetMeaning, InputsInside}
 use Rattle.theory.specs.Firing.{Marking}
-use Rattle.theory.specs.Tallies.{Tally, Reached}
-use Rattle.theory.specs.Tallies.Reached.{marked, through}
+use Rattle.theory.specs.Tallies.{Tally, IsReached}
+use Rattle.theory.specs.Tallies.IsReached.{marked, through}
 use Rattle.theory.specs.Tests.{any_below, reach, is_reached}
 use Rattle.theory.proofs.Realized.{reached_fold}
 
@@ -112,7 +112,7 @@ Closed N x r =
 -- a closed set that has the marked places has every place that is reached
 pub closed_reached : (N : NetMeaning) → InputsInside N → (m : Marking) (x : Tally) (r : ℕ → Bool) →
     ((p : ℕ) → p < N.places → 0 < m p → r p ≡ true) → Closed N x r →
-    (q : ℕ) → Reached N m x q → q < N.places → r q ≡ true
+    (q : ℕ) → IsReached N m x q → q < N.places → r q ≡ true
 closed_reached N inside m x r start closed =
     reached_fold N m x (λ q. q < N.places → r q ≡ true)
     (λ p h l. start p l h)
@@ -123,7 +123,7 @@ module _ (N : NetMeaning) (m : Marking) (x : Tally) where
   abbrev leads : ℕ → ℕ → ℕ → Bool
   leads k p t = ltb 0 (x t) && (ltb 0 (N.yields t p) && reach N m x k (N.input t))
 
-  pub reach_sound : (k p : ℕ) → reach N m x k p ≡ true → Reached N m x p
+  pub reach_sound : (k p : ℕ) → reach N m x k p ≡ true → IsReached N m x p
   reach_sound zero p h = marked (ltb-true 0 (m p) h)
   reach_sound (suc k) p h =
       elim (or_cases (reach N m x k p) (any_below (leads k p) N.steps) h) [
@@ -171,7 +171,7 @@ module _ (N : NetMeaning) (m : Marking) (x : Tally) where
             ]
       ]
 
-  reach_all : InputsInside N → (q : ℕ) → q < N.places → Reached N m x q → is_reached N m x q ≡ true
+  reach_all : InputsInside N → (q : ℕ) → q < N.places → IsReached N m x q → is_reached N m x q ≡ true
   reach_all inside q l h =
       elim (rounds N.places) [
         | inl w ↦
@@ -183,5 +183,5 @@ module _ (N : NetMeaning) (m : Marking) (x : Tally) where
       ]
 
 pub reached_decided : (N : NetMeaning) → InputsInside N → (m : Marking) (x : Tally) (p : ℕ) → p < N.places →
-    Decides (is_reached N m x p) (Reached N m x p)
+    Decides (is_reached N m x p) (IsReached N m x p)
 reached_decided N inside m x p l = (reach_sound N m x N.places p, reach_all N m x inside p l)

@@ -4,8 +4,8 @@ use Rattle.std.proofs.Common.{◌≡◌, ℕ, ◌+◌, ◌<◌, ◌≤◌, List,
 use Rattle.std.proofs.lemmas.Bool.{cases_eq, cases_lt}
 use Rattle.theory.specs.Nets.{NetMeaning}
 use Rattle.theory.specs.Firing.{Marking, one_at, fired, after, times}
-use Rattle.theory.specs.Tallies.{Tally, steps_asked, spent, gained, Realizes, Reached}
-use Rattle.theory.specs.Tallies.Reached.{marked, through}
+use Rattle.theory.specs.Tallies.{Tally, steps_asked, spent, gained, Realizes, IsReached}
+use Rattle.theory.specs.Tallies.IsReached.{marked, through}
 use Rattle.theory.specs.Orders.{less}
 use Rattle.theory.proofs.SumLaws.{sum_to_none}
 use Rattle.theory.proofs.TallySums.{one_tells, one_same, one_other, sum_less, total_less, sum_nothing}
@@ -16,13 +16,13 @@ Enough N m x = (p : ℕ) → p < N.places → spent N x p ≤ m p + gained N x p
 
 -- the input of each step of the tally is reached; this alone decides whether a place is cut off
 abbrev pub InputsReached : NetMeaning → Marking → Tally → Type 0
-InputsReached N m x = (t : ℕ) → t < N.steps → 0 < x t → Reached N m x (N.input t)
+InputsReached N m x = (t : ℕ) → t < N.steps → 0 < x t → IsReached N m x (N.input t)
 
 -- an induction over the places that are reached
 pub reached_fold : (N : NetMeaning) (m : Marking) (x : Tally) (P : ℕ → Type 0) →
     ((p : ℕ) → 0 < m p → P p) →
     ((t q : ℕ) → t < N.steps → 0 < x t → P (N.input t) → 0 < N.yields t q → P q) →
-    (q : ℕ) → Reached N m x q → P q
+    (q : ℕ) → IsReached N m x q → P q
 reached_fold N m x P here on q (marked h) = here q h
 reached_fold N m x P here on q (through t l h r y) = on t q l h (reached_fold N m x P here on (N.input t) r) y
 
@@ -86,9 +86,9 @@ module _ (N : NetMeaning) where
 
   -- what is reached after a firing is reached before it
   pub reached_before : (m : Marking) (x : Tally) (t : ℕ) → t < N.steps → 0 < x t → 0 < m (N.input t) →
-      (q : ℕ) → Reached N (fired N m t) (less x t) q → Reached N m x q
+      (q : ℕ) → IsReached N (fired N m t) (less x t) q → IsReached N m x q
   reached_before m x t l h i =
-      reached_fold N (fired N m t) (less x t) (Reached N m x)
+      reached_fold N (fired N m t) (less x t) (IsReached N m x)
       (λ p k. elim (cases_lt 0 (m p)) [
         | inl a ↦ marked a
         | inr b ↦ through t l h (marked i) (omega arith)

@@ -4,7 +4,7 @@ use Rattle.std.proofs.lemmas.Bool.{cases_Bool}
 use Rattle.std.proofs.lemmas.Bool.Decides.{Decides-and, Decides-ltb, Decides-eqb, same_from_decides, not_from_Decides}
 use Rattle.theory.specs.Nets.{NetMeaning}
 use Rattle.theory.specs.Firing.{Marking, one_at, fired}
-use Rattle.theory.specs.Tallies.{Tally, spent, gained, Reached}
+use Rattle.theory.specs.Tallies.{Tally, spent, gained, IsReached}
 use Rattle.theory.specs.Orders.{less}
 use Rattle.theory.specs.Tests.{any_below, is_reached}
 use Rattle.theory.specs.Laws.{FiringKeepsFinalNumbers, SafeByItsInput, ClosedSetIsReached}
@@ -27,13 +27,13 @@ firing_keeps_final_numbers N m x t l h i p =
 
 -- after the step, its input place is reached, or no step left takes from there
 back_or_last : (N : NetMeaning) (m : Marking) (x : Tally) (p : ℕ) → InputsReached N m x →
-    Reached N m x p ⊎ ((u : ℕ) → u < N.steps → 0 < x u → N.input u ≡ p → ⊥)
+    IsReached N m x p ⊎ ((u : ℕ) → u < N.steps → 0 < x u → N.input u ≡ p → ⊥)
 back_or_last N m x p c =
     let takes : ℕ → Bool = λ u. ltb 0 (x u) && eqb (N.input u) p in
     let d = decides_any takes (λ u. (0 < x u) × (N.input u ≡ p)) N.steps
     (λ u. Decides-and (ltb 0 (x u)) (eqb (N.input u) p) (Decides-ltb 0 (x u)) (Decides-eqb (N.input u) p)) in
     elim (cases_Bool (any_below takes N.steps)) [
-      | inl e ↦ let w = d.0 e in inl (subst (Reached N m x) w.2.1 (c w.0 w.1 w.2.0))
+      | inl e ↦ let w = d.0 e in inl (subst (IsReached N m x) w.2.1 (c w.0 w.1 w.2.0))
       | inr e ↦ inr (λ u l h q. not_from_Decides (any_below takes N.steps) d e (u, l, (h, q)))
     ]
 

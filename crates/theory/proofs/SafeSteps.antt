@@ -4,9 +4,9 @@ use Rattle.std.proofs.Common.{◌≡◌, ℕ, zero, suc, ◌*◌, ◌<◌, ◌�
 use Rattle.std.proofs.lemmas.Bool.{cases_eq, cases_lt}
 use Rattle.theory.specs.Nets.{NetMeaning, InputsInside}
 use Rattle.theory.specs.Firing.{Marking, one_at, fired}
-use Rattle.theory.specs.Tallies.{Tally, steps_asked, Realizable, Reached}
-use Rattle.theory.specs.Tallies.Reached.{marked, through}
-use Rattle.theory.specs.Orders.{less, Safe}
+use Rattle.theory.specs.Tallies.{Tally, steps_asked, Realizable, IsReached}
+use Rattle.theory.specs.Tallies.IsReached.{marked, through}
+use Rattle.theory.specs.Orders.{less, IsSafe}
 use Rattle.theory.proofs.SumLaws.{le_sum_to}
 use Rattle.theory.proofs.TallySums.{one_same, one_other, sum_less, total_less, sum_find, pos_left, pos_right}
 use Rattle.theory.proofs.Realized.{Enough, InputsReached, reached_fold, fired_is, realizes_more}
@@ -29,7 +29,7 @@ KeepsReached N m x s =
 
 -- a step of the tally that takes at p, after which q is reached
 abbrev Back : NetMeaning → Marking → Tally → ℕ → ℕ → Type 0
-Back N m x p q = (t : ℕ) × ((t < N.steps) × (0 < x t) × (N.input t ≡ p)) × Reached N (fired N m t) (less x t) q
+Back N m x p q = (t : ℕ) × ((t < N.steps) × (0 < x t) × (N.input t ≡ p)) × IsReached N (fired N m t) (less x t) q
 
 -- a step of the tally that can be fired
 abbrev Ready : NetMeaning → Marking → Tally → Type 0
@@ -37,7 +37,7 @@ Ready N m x = (s : ℕ) × (s < N.steps) × (0 < x s) × (0 < m (N.input s))
 
 module _ (N : NetMeaning) (m : Marking) (x : Tally) where
   -- some step can be fired where an input is reached
-  some_ready : (t : ℕ) → t < N.steps → 0 < x t → Reached N m x (N.input t) → Ready N m x
+  some_ready : (t : ℕ) → t < N.steps → 0 < x t → IsReached N m x (N.input t) → Ready N m x
   some_ready t l h r =
       reached_fold N m x (λ q. (u : ℕ) → u < N.steps → 0 < x u → N.input u ≡ q → Ready N m x)
       (λ p k u a b e. (u, a, b, subst (λ (v : ℕ). 0 < m v) (sym e) k))
@@ -46,13 +46,13 @@ module _ (N : NetMeaning) (m : Marking) (x : Tally) where
 
   -- a step whose input is reached again after it
   pub keeps_if_back : InputsReached N m x → (s : ℕ) → s < N.steps → 0 < x s → 0 < m (N.input s) →
-      Reached N (fired N m s) (less x s) (N.input s) → KeepsReached N m x s
+      IsReached N (fired N m s) (less x s) (N.input s) → KeepsReached N m x s
   keeps_if_back c s l h i back = (l, h, i, λ u k j. again (N.input u) (c u k (omega arith)))
     where
-      again : (q : ℕ) → Reached N m x q → Reached N (fired N m s) (less x s) q
-      again = reached_fold N m x (Reached N (fired N m s) (less x s))
+      again : (q : ℕ) → IsReached N m x q → IsReached N (fired N m s) (less x s) q
+      again = reached_fold N m x (IsReached N (fired N m s) (less x s))
           (λ q k. elim (cases_eq (N.input s) q) [
-            | inl e ↦ subst (Reached N (fired N m s) (less x s)) e back
+            | inl e ↦ subst (IsReached N (fired N m s) (less x s)) e back
             | inr d ↦ marked (stays N m s q d k)
           ])
           (λ t q k j r y. elim (cases_eq s t) [
@@ -65,8 +65,8 @@ module _ (N : NetMeaning) (m : Marking) (x : Tally) where
       ((u : ℕ) → u < N.steps → 0 < less x s u → N.input s ≡ N.input u → ⊥) → KeepsReached N m x s
   keeps_if_last c s l h i last = (l, h, i, λ u k j. again (N.input u) (c u k (omega arith)) (last u k j))
     where
-      again : (q : ℕ) → Reached N m x q → (N.input s ≡ q → ⊥) → Reached N (fired N m s) (less x s) q
-      again = reached_fold N m x (λ q. (N.input s ≡ q → ⊥) → Reached N (fired N m s) (less x s) q)
+      again : (q : ℕ) → IsReached N m x q → (N.input s ≡ q → ⊥) → IsReached N (fired N m s) (less x s) q
+      again = reached_fold N m x (λ q. (N.input s ≡ q → ⊥) → IsReached N (fired N m s) (less x s) q)
           (λ q k d. marked (stays N m s q d k))
           (λ t q k j r y _. elim (cases_eq s t) [
             | inl e ↦ marked (yielded N m s q (subst (λ (v : ℕ). 0 < N.yields v q) (sym e) y))
@@ -86,7 +86,7 @@ module _ (N : NetMeaning) (m : Marking) (x : Tally) where
       ]
 
   -- every other place that is reached is so after some step that takes where s does
-  all_back : (s : ℕ) → s < N.steps → 0 < x s → (q : ℕ) → Reached N m x q →
+  all_back : (s : ℕ) → s < N.steps → 0 < x s → (q : ℕ) → IsReached N m x q →
       (q ≡ N.input s) ⊎ Back N m x (N.input s) q
   all_back s l h =
       reached_fold N m x (λ q. (q ≡ N.input s) ⊎ Back N m x (N.input s) q)
@@ -116,7 +116,7 @@ module _ (N : NetMeaning) (m : Marking) (x : Tally) where
                 let e : N.input v ≡ p = b.1.2 in (
                   v,
                   keeps_if_back c v b.1.0 b.1.1 (subst (λ (q : ℕ). 0 < m q) (sym e) i)
-                      (subst (Reached N (fired N m v) (less x v)) (sym e) b.2),
+                      (subst (IsReached N (fired N m v) (less x v)) (sym e) b.2),
                 )
             | inr z ↦
                 let p : ℕ = N.input s in
@@ -169,6 +169,6 @@ pub doable : (N : NetMeaning) → InputsInside N → (m : Marking) (x : Tally) �
 doable N inside m x = order_of N inside (steps_asked N x) m x refl
 
 pub keeps_safe : (N : NetMeaning) → InputsInside N → (m : Marking) (x : Tally) → Enough N m x →
-    (s : ℕ) → KeepsReached N m x s → Safe N m x s
+    (s : ℕ) → KeepsReached N m x s → IsSafe N m x s
 keeps_safe N inside m x enough s (l, h, i, c) =
     (l, h, i, doable N inside (fired N m s) (less x s) (enough_after N m x s l h i enough) c)

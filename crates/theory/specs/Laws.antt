@@ -2,9 +2,9 @@
 use Rattle.std.specs.Prelude.{◌≡◌, ℕ, ◌+◌, ◌-◌, ◌<◌, Bool, true, false, ◌⊎◌, ◌↔◌, List, [], ◌∷◌, ◌++◌, length, pos, ◌<ℤ◌, Some, None, Decides, ◌≢◌}
 use Rattle.theory.specs.Nets.{NetMeaning, InputsInside}
 use Rattle.theory.specs.Firing.{Marking, fired, CanFire, after, times}
-use Rattle.theory.specs.Tallies.{Tally, Realizes, Realizable, final_number, Short, InSubnet, Reached, IsCutOff, NoPlaceShort, NoPlaceCutOff}
-use Rattle.theory.specs.Orders.{Earlier, First, less, Safe, LeastSafeEachTime}
-use Rattle.theory.specs.Tests.{least, is_short, in_subnet, is_reached, is_cut_off, can_be_done, safe, first_order}
+use Rattle.theory.specs.Tallies.{Tally, Realizes, Realizable, final_number, IsShort, InSubnet, IsReached, IsCutOff, NoPlaceShort, NoPlaceCutOff}
+use Rattle.theory.specs.Orders.{Earlier, First, less, IsSafe, LeastSafeEachTime}
+use Rattle.theory.specs.Tests.{least, is_short, in_subnet, is_reached, is_cut_off, can_be_done, is_safe, first_order}
 
 -- WHICH TALLIES CAN BE DONE
 
@@ -23,7 +23,7 @@ EndsAtFinalNumbers =
 -- short, said by the marking equation: what it gives is negative
 abbrev pub ShortBelowZero : Type 0
 ShortBelowZero =
-    (N : NetMeaning) (m : Marking) (x : Tally) (p : ℕ) → Short N m x p ↔ (final_number N m x p <ℤ pos 0)
+    (N : NetMeaning) (m : Marking) (x : Tally) (p : ℕ) → IsShort N m x p ↔ (final_number N m x p <ℤ pos 0)
 
 -- WHICH ORDER IS THE FIRST
 
@@ -31,7 +31,7 @@ ShortBelowZero =
 abbrev pub SafeStepExists : Type 0
 SafeStepExists =
     (N : NetMeaning) → InputsInside N → (m : Marking) (x : Tally) → NoPlaceShort N m x → NoPlaceCutOff N m x →
-    (t : ℕ) → t < N.steps → 0 < x t → (s : ℕ) × Safe N m x s
+    (t : ℕ) → t < N.steps → 0 < x t → (s : ℕ) × IsSafe N m x s
 
 -- an order in which each step is the least safe one, when its turn comes, is the first
 abbrev pub LeastSafeIsFirst : Type 0
@@ -57,7 +57,7 @@ FirstIsOne =
 -- the first order goes on from its first step: the least safe step, then the first order of the rest after it
 abbrev pub FirstOrderGoesOn : Type 0
 FirstOrderGoesOn =
-    (N : NetMeaning) → InputsInside N → (m : Marking) (x : Tally) (t : ℕ) → Safe N m x t → ((u : ℕ) → u < t → Safe N m x u → ⊥) →
+    (N : NetMeaning) → InputsInside N → (m : Marking) (x : Tally) (t : ℕ) → IsSafe N m x t → ((u : ℕ) → u < t → IsSafe N m x u → ⊥) →
     first_order N m x ≡ t ∷ first_order N (fired N m t) (less x t)
 
 -- and ends where no step is left
@@ -79,13 +79,13 @@ abbrev pub SafeByItsInput : Type 0
 SafeByItsInput =
     (N : NetMeaning) → InputsInside N → (m : Marking) (x : Tally) → Realizable N m x →
     (t : ℕ) → t < N.steps → 0 < x t → 0 < m (N.input t) →
-    Safe N m x t ↔ (Reached N (fired N m t) (less x t) (N.input t)
+    IsSafe N m x t ↔ (IsReached N (fired N m t) (less x t) (N.input t)
     ⊎ ((u : ℕ) → u < N.steps → 0 < less x t u → N.input u ≢ N.input t))
 
 -- a set of reached places with all marked ones in it, which no step of the tally leads out of: it lacks none
 pub record ClosedSet (N : NetMeaning) (m : Marking) (x : Tally) (set : ℕ → Bool) : Type 0 where
   pub has_marked : (p : ℕ) → p < N.places → 0 < m p → set p ≡ true
-  pub has_reached_only : (p : ℕ) → p < N.places → set p ≡ true → Reached N m x p
+  pub has_reached_only : (p : ℕ) → p < N.places → set p ≡ true → IsReached N m x p
   pub closed : (t p : ℕ) → t < N.steps → 0 < x t → set (N.input t) ≡ true → p < N.places → 0 < N.yields t p → set p ≡ true
 
 -- so any way to find such a set finds the reached places
@@ -112,7 +112,7 @@ EarlierCompares = (a b : List ℕ) → length a ≡ length b → (a ≡ b) ⊎ (
 
 -- the test for a short place says what is meant, and so below for each test
 abbrev pub ShortDecided : Type 0
-ShortDecided = (N : NetMeaning) (m : Marking) (x : Tally) (p : ℕ) → Decides (is_short N m x p) (Short N m x p)
+ShortDecided = (N : NetMeaning) (m : Marking) (x : Tally) (p : ℕ) → Decides (is_short N m x p) (IsShort N m x p)
 
 -- a place of the subnet
 abbrev pub SubnetDecided : Type 0
@@ -122,7 +122,7 @@ SubnetDecided = (N : NetMeaning) (x : Tally) (p : ℕ) → Decides (in_subnet N 
 abbrev pub ReachedDecided : Type 0
 ReachedDecided =
     (N : NetMeaning) → InputsInside N → (m : Marking) (x : Tally) (p : ℕ) → p < N.places →
-    Decides (is_reached N m x p) (Reached N m x p)
+    Decides (is_reached N m x p) (IsReached N m x p)
 
 -- a cut-off place
 abbrev pub CutOffDecided : Type 0
@@ -139,7 +139,7 @@ DoneDecided =
 abbrev pub SafeDecided : Type 0
 SafeDecided =
     (N : NetMeaning) → InputsInside N → (m : Marking) (x : Tally) → NoPlaceShort N m x →
-    (t : ℕ) → Decides (safe N m x t) (Safe N m x t)
+    (t : ℕ) → Decides (is_safe N m x t) (IsSafe N m x t)
 
 -- k passes the test, and nothing below it does
 abbrev pub IsLeast : (ℕ → Bool) → ℕ → ℕ → Type 0
@@ -204,7 +204,7 @@ pub record Exchanged (N : NetMeaning) (m m' : Marking) (x x' : Tally) : Type 0 w
   pub can_fire : (order : List ℕ) → CanFire N m order → CanFire N m' order
   pub after_it : (order : List ℕ) → AgreeBelow N.places (after N m order) (after N m' order)
   pub realizes : (order : List ℕ) → Realizes N m x order → Realizes N m' x' order
-  pub reached : (p : ℕ) → p < N.places → Reached N m x p → Reached N m' x' p
+  pub reached : (p : ℕ) → p < N.places → IsReached N m x p → IsReached N m' x' p
   pub first : (order : List ℕ) → First N m x order → First N m' x' order
   pub first_order : Realizable N m x → first_order N m x ≡ first_order N m' x'
 

@@ -20,11 +20,11 @@ abbrev pub less : Tally → ℕ → Tally
 less x t u = x u - one_at t u
 
 -- t is safe: the tally asks for it, it can be fired at once, and some order still does all that is then left
-abbrev pub Safe : NetMeaning → Marking → Tally → ℕ → Type 0
-Safe N m x t = (t < N.steps) × (0 < x t) × (0 < m (N.input t)) × Realizable N (fired N m t) (less x t)
+abbrev pub IsSafe : NetMeaning → Marking → Tally → ℕ → Type 0
+IsSafe N m x t = (t < N.steps) × (0 < x t) × (0 < m (N.input t)) × Realizable N (fired N m t) (less x t)
 
 -- at each position of the order stands the least safe step
 abbrev pub LeastSafeEachTime : NetMeaning → Marking → Tally → List ℕ → Type 0
 LeastSafeEachTime N m x [] = (t : ℕ) → t < N.steps → x t ≡ 0
 LeastSafeEachTime N m x (t ∷ ts) =
-    Safe N m x t × ((u : ℕ) → u < t → Safe N m x u → ⊥) × LeastSafeEachTime N (fired N m t) (less x t) ts
+    IsSafe N m x t × ((u : ℕ) → u < t → IsSafe N m x u → ⊥) × LeastSafeEachTime N (fired N m t) (less x t) ts

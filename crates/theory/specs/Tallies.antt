@@ -33,25 +33,25 @@ abbrev pub final_number : NetMeaning → Marking → Tally → ℕ → ℤ
 final_number N m x p = pos (m p + gained N x p) -ℤ pos (spent N x p)
 
 -- the place p is short: all that lies there and all that the tally brings do not cover what the tally takes
-abbrev pub Short : NetMeaning → Marking → Tally → ℕ → Type 0
-Short N m x p = m p + gained N x p < spent N x p
+abbrev pub IsShort : NetMeaning → Marking → Tally → ℕ → Type 0
+IsShort N m x p = m p + gained N x p < spent N x p
 
 -- p is a place of the tally's subnet, the net of the steps that it asks for: one of them has an arc from p or to p
 abbrev pub InSubnet : NetMeaning → Tally → ℕ → Type 0
 InSubnet N x p = (t : ℕ) × (t < N.steps) × (0 < x t) × ((N.input t ≡ p) ⊎ (0 < N.yields t p))
 
 -- p is reached: p is marked, or the tally's steps, as arrows from input to yields, lead there from a marked place
-pub data Reached (N : NetMeaning) (m : Marking) (x : Tally) : ℕ → Type 0 where
-  marked : {p : ℕ} → 0 < m p → Reached N m x p
-  through : {p : ℕ} (t : ℕ) → t < N.steps → 0 < x t → Reached N m x (N.input t) → 0 < N.yields t p → Reached N m x p
+pub data IsReached (N : NetMeaning) (m : Marking) (x : Tally) : ℕ → Type 0 where
+  marked : {p : ℕ} → 0 < m p → IsReached N m x p
+  through : {p : ℕ} (t : ℕ) → t < N.steps → 0 < x t → IsReached N m x (N.input t) → 0 < N.yields t p → IsReached N m x p
 
 -- p is cut off: steps of the tally use it, and no block can come there by them (it lies in an unmarked siphon)
 abbrev pub IsCutOff : NetMeaning → Marking → Tally → ℕ → Type 0
-IsCutOff N m x p = InSubnet N x p × (Reached N m x p → ⊥)
+IsCutOff N m x p = InSubnet N x p × (IsReached N m x p → ⊥)
 
 -- no place of the net is short
 abbrev pub NoPlaceShort : NetMeaning → Marking → Tally → Type 0
-NoPlaceShort N m x = (p : ℕ) → p < N.places → Short N m x p → ⊥
+NoPlaceShort N m x = (p : ℕ) → p < N.places → IsShort N m x p → ⊥
 
 -- no place of the net is cut off
 abbrev pub NoPlaceCutOff : NetMeaning → Marking → Tally → Type 0

@@ -56,8 +56,8 @@ abbrev pub can_be_done : NetMeaning → Marking → Tally → Bool
 can_be_done N m x = no_place_short N m x && no_place_cut_off N m x
 
 -- t is safe, where no place is short: firing changes no final number, so only cut-off places are looked for
-abbrev pub safe : NetMeaning → Marking → Tally → ℕ → Bool
-safe N m x t =
+abbrev pub is_safe : NetMeaning → Marking → Tally → ℕ → Bool
+is_safe N m x t =
     nat_lt t N.steps && (nat_lt 0 (x t) && (nat_lt 0 (m (N.input t)) && no_place_cut_off N (fired N m t) (less x t)))
 
 -- the step that was found, with the order that follows it
@@ -68,7 +68,7 @@ followed (Some t) rest = t ∷ rest t
 -- the next n steps of the first order, or as many as are left: each is the least safe one
 abbrev pub first_steps : NetMeaning → Marking → Tally → ℕ → List ℕ
 first_steps N m x zero = []
-first_steps N m x (suc n) = followed (least (safe N m x) N.steps) (λ t. first_steps N (fired N m t) (less x t) n)
+first_steps N m x (suc n) = followed (least (is_safe N m x) N.steps) (λ t. first_steps N (fired N m t) (less x t) n)
 
 -- the first order of a tally that can be done
 abbrev pub first_order : NetMeaning → Marking → Tally → List ℕ

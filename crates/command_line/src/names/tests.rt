@@ -1,5 +1,5 @@
 //! Names with what must not be printed as it is, and the way back.
-use super::{one_line, read_back};
+use crate::names::{one_line, read_back};
 
 /// Names, and what is printed for each.
 const NAMES: &[(&[u8], &str)] = &[

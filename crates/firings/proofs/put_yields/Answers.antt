@@ -1,9 +1,9 @@
 use Rattle.theory.specs.Nets.{LawfulNet}
 use Rattle.std.proofs.Common.{rules, true, ◌≡◌, ℕ, ◌+◌, ◌<◌, sym, ap, ◌∙◌, inl, inr, arith}
 use Rattle.std.proofs.lemmas.Bool.{cases_lt, ltb-true}
-use Rattle.place_sets.specs.Flags.{has}
-use Rattle.place_sets.proofs.Passed.{passed, none_passed, one_passed, first_not_passed, rest_inside}
-use Rattle.boards.specs.Boards.{at}
+use Rattle.sets.specs.Flags.{has}
+use Rattle.sets.proofs.Passed.{passed, none_passed, one_passed, first_not_passed, rest_inside}
+use Rattle.boards.specs.Boards.{only_at}
 use Rattle.firings.proofs.Puts.{put_none, put_fits, put_more, put_accepted}
 use Rattle.firings.proofs.put_yields.Goals as goal
 
@@ -46,7 +46,7 @@ loop-place-preserved g c =
     let fits = put_fits n Y (passed set rest) (passed set rest') p below new more (R b₀) (R b) c.requires inv.1 in
     let d = put_accepted p c.from.result (H b) (R b) c.put.result (H b') (R b') (omega (arith, first.inside)) (omega (arith, fits, blocks)) c.put.ensures.answer in (
       put_more n Y (passed set rest) (passed set rest') p below new more (H b₀) (R b₀) (H b) (R b) (H b') (R b') inv
-          (λ q. d.raised q ∙ ap (λ (v : ℕ). H b q + at p q v) blocks)
+          (λ q. d.raised q ∙ ap (λ (v : ℕ). H b q + only_at p q v) blocks)
           (omega (arith, d.lowered, blocks)),
       rest_inside 64 set rest rest' p first inside less,
     )

@@ -1,6 +1,6 @@
 use Rattle.std.proofs.Common.{◌≡◌, ℕ, true}
-use Rattle.place_sets.specs.Flags.{has}
-use Rattle.place_sets.proofs.Passed.{passed}
+use Rattle.sets.specs.Flags.{has}
+use Rattle.sets.proofs.Passed.{passed}
 use Rattle.firings.proofs.Puts.{PutIn}
 use Rattle.firings.proofs.put_yields.Given as goal
 

@@ -1,13 +1,13 @@
 use Rattle.std.proofs.Common.{◌≡◌, ℕ, eqb, ◌≢◌, refl, arith, rules, below_more}
 use Rattle.std.proofs.lemmas.Bool.{eq-eqb, ne_eqb, cond-true, cond-false}
 use Rattle.theory.specs.Rows as lent
-use Rattle.boards.specs.Boards.{at}
+use Rattle.boards.specs.Boards.{only_at}
 use Rattle.handover.proofs.piles.lay_out.Goals as goal
 
-elsewhere : (place p n : ℕ) → p ≢ place → at place p n ≡ 0
+elsewhere : (place p n : ℕ) → p ≢ place → only_at place p n ≡ 0
 elsewhere place p n ne = cond-false (eqb place p) n 0 (ne_eqb place p (λ e. ne (omega arith)))
 
-here : (place n : ℕ) → at place place n ≡ n
+here : (place n : ℕ) → only_at place place n ≡ n
 here place n = cond-true (eqb place place) n 0 (eq-eqb place place refl)
 
 pub loop-place-preserved : goal.loop-place-preserved

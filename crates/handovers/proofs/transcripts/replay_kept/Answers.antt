@@ -1,8 +1,7 @@
 use Rattle.theory.specs.Nets.{LawfulNet}
 use Rattle.std.proofs.Common.{◌≡◌, ℕ, [], length, rules, refl, ◌∙◌, subst}
 use Rattle.theory.specs.Rows.{at}
-use Rattle.answers.specs.States.{new_on}
-use Rattle.checks.specs.Held.{held}
+use Rattle.answers.specs.States.{new_on, state_of}
 use Rattle.handovers.specs.HandedOver.{counters_of}
 use Rattle.handovers.specs.Performed.{said_of, with_front, Kept}
 use Rattle.handovers.proofs.Performing.{front_alone, made_kept}
@@ -12,9 +11,9 @@ pub returns : goal.returns
 returns g c =
     let N : LawfulNet = record { net = g.N.Net.net c.args.net; law = g.met.N.Net.lawful c.args.net } in
     let s = new_on (g.C.Board.counts c.args.board) (g.C.Board.spare c.args.board) in
-    let now = held (at c.args.marking.now) 0 c.args.done.now in
+    let now = state_of (at c.args.marking.now) 0 c.args.done.now in
     let w = c.replay-told.result.1 in
-    let s' = held (g.C.Board.counts w.board) (g.C.Board.spare w.board) w.done in
+    let s' = state_of (g.C.Board.counts w.board) (g.C.Board.spare w.board) w.done in
     let order = c.as_mut_slice.result.now in
     let order' = c.replay-told.new.order in
     let told = c.replay-told.result.0 in

@@ -1,7 +1,7 @@
 use Rattle.std.proofs.Common.{◌∙◌}
 use Rattle.theory.specs.Nets.{LawfulNet}
 use Rattle.theory.specs.Rows.{at}
-use Rattle.place_sets.specs.Flags.{has}
+use Rattle.sets.specs.Flags.{has}
 use Rattle.reached.specs.Led.{has_at}
 use Rattle.reached.proofs.Reaching.{cut_off_decided}
 use Rattle.reached.proofs.cut_off.cut_off_places.Goals as goal

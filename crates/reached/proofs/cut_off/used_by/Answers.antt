@@ -1,7 +1,7 @@
 use Rattle.theory.specs.Nets.{LawfulNet}
 use Rattle.std.proofs.Common.{ℕ, Bool, ◌&&◌, ◌||◌, eqb, ltb, sym, ap, ◌∙◌, ◌<◌, arith}
 use Rattle.std.proofs.lemmas.Bool.{lt-ltb, le-ltb}
-use Rattle.place_sets.specs.Flags.{has}
+use Rattle.sets.specs.Flags.{has}
 use Rattle.theory.specs.Rows.{at}
 use Rattle.reached.proofs.Flagged.{any_joined, any_passed_over, or_regroup, met_and}
 use Rattle.reached.proofs.Reaching.{input_there}

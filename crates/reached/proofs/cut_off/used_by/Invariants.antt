@@ -1,5 +1,5 @@
 use Rattle.std.proofs.Common.{◌≡◌, ℕ, ◌&&◌, ◌||◌, eqb, ltb}
-use Rattle.place_sets.specs.Flags.{has}
+use Rattle.sets.specs.Flags.{has}
 use Rattle.theory.specs.Rows.{at}
 use Rattle.theory.specs.Tests.{any_below}
 use Rattle.reached.proofs.cut_off.used_by.Given as goal

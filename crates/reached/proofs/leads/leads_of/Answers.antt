@@ -4,7 +4,7 @@ use Rattle.std.proofs.lemmas.Bool.{lt-ltb, le-ltb}
 use Rattle.std.proofs.lemmas.List.{length-replicate, length-set}
 use Rattle.std.proofs.lemmas.Grind.{get_or_default_zero}
 use Rattle.theory.specs.Tests.{any_below}
-use Rattle.place_sets.specs.Flags.{has}
+use Rattle.sets.specs.Flags.{has}
 use Rattle.theory.specs.Rows.{at}
 use Rattle.reached.specs.Led.{has_at}
 use Rattle.reached.specs.Leads.{takes}

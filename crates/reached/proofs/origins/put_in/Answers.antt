@@ -1,9 +1,9 @@
 use Rattle.std.proofs.Common.{◌≡◌, ℕ, Bool, true, false, ◌<◌, length, ◌&&◌, ◌||◌, eqb, ltb, refl, sym, ap, ◌∙◌, arith}
 use Rattle.std.proofs.lemmas.Bool.{lt-ltb}
 use Rattle.std.proofs.lemmas.Grind.{get_or_default_zero}
-use Rattle.place_sets.specs.Flags.{has}
+use Rattle.sets.specs.Flags.{has}
 use Rattle.reached.specs.Led.{has_at}
-use Rattle.place_sets.proofs.Passed.{passed, rest_inside, one_passed, more_added}
+use Rattle.sets.proofs.Passed.{passed, rest_inside, one_passed, more_added}
 use Rattle.reached.proofs.SetRows.{joined}
 use Rattle.reached.proofs.origins.put_in.Goals as goal
 

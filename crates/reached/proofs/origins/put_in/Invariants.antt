@@ -1,6 +1,6 @@
 use Rattle.std.proofs.Common.{true, ◌≡◌, ℕ, ◌&&◌, ◌||◌, eqb}
-use Rattle.place_sets.specs.Flags.{has}
-use Rattle.place_sets.proofs.Passed.{passed}
+use Rattle.sets.specs.Flags.{has}
+use Rattle.sets.proofs.Passed.{passed}
 use Rattle.reached.specs.Led.{has_at}
 use Rattle.reached.proofs.origins.put_in.Given as goal
 

@@ -1,8 +1,8 @@
 use Rattle.std.proofs.Common.{ℕ, Bool, not, ◌<◌, length, ◌&&◌, eqb, sym, ap, ◌∙◌, arith}
 use Rattle.std.proofs.lemmas.Grind.{get_or_default_zero}
-use Rattle.place_sets.specs.Flags.{has}
+use Rattle.sets.specs.Flags.{has}
 use Rattle.reached.specs.Led.{has_at}
-use Rattle.place_sets.proofs.Passed.{passed, rest_inside, one_passed, more_taken}
+use Rattle.sets.proofs.Passed.{passed, rest_inside, one_passed, more_taken}
 use Rattle.reached.proofs.SetRows.{reduced}
 use Rattle.reached.proofs.origins.take_out.Goals as goal
 

@@ -1,7 +1,7 @@
 use Rattle.std.proofs.Common.{ℕ, ◌||◌, sym, ap, ◌∙◌, arith}
 use Rattle.std.proofs.lemmas.Grind.{get_or_default_zero}
 use Rattle.theory.specs.Rows.{at}
-use Rattle.place_sets.specs.Flags.{has}
+use Rattle.sets.specs.Flags.{has}
 use Rattle.std.proofs.lemmas.Bool.{and_parts}
 use Rattle.reached.specs.Led.{has_at}
 use Rattle.reached.proofs.Searching.{search_begins, search_goes_on, search_ends}

@@ -1,5 +1,5 @@
 use Rattle.std.proofs.Common.{◌-◌, ◌^◌, ◌<◌}
-use Rattle.place_sets.specs.Flags.{has}
+use Rattle.sets.specs.Flags.{has}
 use Rattle.reached.specs.Led.{has_at}
 use Rattle.reached.proofs.Searching.{Searching}
 use Rattle.reached.proofs.search.reached_from.Given as goal

@@ -1,6 +1,6 @@
 use Rattle.theory.specs.Nets.{LawfulNet}
 use Rattle.std.proofs.Common.{rules, arith}
-use Rattle.checks.specs.Held.{held, target_of}
+use Rattle.answers.specs.States.{state_of, target_of}
 use Rattle.sittings.proofs.DoneRows.{counts_fit, added_total}
 use Rattle.sittings.proofs.Resumed.{fired_by_net, sizes_of_accepted, refused_resume}
 use Rattle.sittings.proofs.sitting.Sitting.resume.Goals as goal
@@ -8,7 +8,7 @@ use Rattle.sittings.proofs.sitting.Sitting.resume.Goals as goal
 pub returns-in_err-length-clause-after : goal.returns-in_err-length-clause-after
 returns-in_err-length-clause-after g c =
     let a = c.args.self.now in
-    let s = held (g.B.Board.counts a.board) (g.B.Board.spare a.board) a.done in
+    let s = state_of (g.B.Board.counts a.board) (g.B.Board.spare a.board) a.done in
     let T = target_of c.args.target.numbers.now c.args.target.kind in
     refused_resume (g.N.Net.net a.net) s c.args.tally.now T c.args.order.now _ _ _ _ (fired_by_net c.read.ensures c.in_err-length.was c.fire_tally.ensures)
 

@@ -1,0 +1,2 @@
+pub mod CutOffs
+pub mod Listed

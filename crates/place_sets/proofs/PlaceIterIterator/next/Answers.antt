@@ -1,9 +1,0 @@
-use Rattle.place_sets.proofs.LeastFlag.{some_not_zero}
-use Rattle.place_sets.proofs.PlaceIterIterator.next.Goals as goal
-
-pub returns-clause-goes : goal.returns-clause-goes
-returns-clause-goes c = record {
-  on = λ _. (tt, tt, c.without_first-self.ensures.shrinks (some_not_zero c.args.self.now.rest c.in_ok-place.place c.in_ok-place.ensures.cases.in_it));
-  keeps = tt;
-  rests = λ _. tt;
-}

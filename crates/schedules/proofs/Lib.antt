@@ -1,8 +1,0 @@
-mod Added
-mod Rows
-mod Marked
-mod Moved
-mod Reading
-mod Counting
-mod SafeFirings
-pub mod Chosen

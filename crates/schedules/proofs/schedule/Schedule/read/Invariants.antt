@@ -1,6 +1,0 @@
-use Rattle.theory.specs.Rows.{at}
-use Rattle.schedules.proofs.Reading.{ReadTo}
-use Rattle.schedules.proofs.schedule.Schedule.read.Given as goal
-
-abbrev pub invariant-loop-step : goal.invariant-loop-step
-invariant-loop-step g l = ReadTo (g.N.Net.net l.net) (at l.counts) (at l.tally) l.step l.self

@@ -1,4 +1,0 @@
-pub mod Added
-pub mod Bounds
-pub mod Rows
-pub mod Yielded

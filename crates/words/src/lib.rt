@@ -1,0 +1,103 @@
+//! What stands in rows of words.
+#![tactic(auto)]
+
+ghost use Rattle.std.specs.Prelude.{◌≡◌, ◌<◌, ◌⊎◌, ℕ, Ok, [], codes, length, slice_index_or, IfOk};
+ghost use Rattle.hex.specs.Hex.{decode_of, encode_lower};
+ghost use Rattle.words.specs.Faults.{understood_of};
+ghost use Rattle.words.specs.Slots.{slots_of};
+ghost use Rattle.words.specs.declared.Fault.{Fault};
+ghost use Rattle.words.specs.declared.Fault.TheVariants.{NotUnderstood, Memory};
+
+use anyhow::ensure;
+use std::alloc::{AllocError, Global};
+use std::iter::repeat_n;
+use std::num::ParseIntError;
+use std::str::FromStr;
+
+/// Why words are not read.
+#[derive(Drop)]
+pub enum Fault {
+    NotUnderstood,
+    Memory(AllocError),
+}
+
+impl From<ParseIntError> for Fault {
+    ghost from_gives = { λ error fault. fault ≡ NotUnderstood };
+
+    fn from(_error: ParseIntError) -> Fault {
+        Fault::NotUnderstood
+    }
+}
+
+impl From<AllocError> for Fault {
+    ghost from_gives = { λ error fault. fault ≡ Memory error };
+
+    fn from(error: AllocError) -> Fault {
+        Fault::Memory(error)
+    }
+}
+
+/// What was read; nothing where it was not understood.
+pub fn understood<T>(read: Result<T, Fault>) -> Result<Option<T>, AllocError>
+    ensures { result ≡ understood_of read }
+{
+    match read {
+        Ok(value) => Ok(Some(value)),
+        Err(Fault::NotUnderstood) => Ok(None),
+        Err(Fault::Memory(error)) => Err(error),
+    }
+}
+
+/// The words as numbers; an error where one of them is none.
+pub fn numbers<T: FromStr + Drop, E: From<T::Err> + From<AllocError> + Drop>(
+    alloc: Global,
+    words: &[&str],
+) -> Result<Vec<T>, E>
+    ensures count { IfOk result (λ all. length all.items ≡ length words.now) }
+    ensures each { IfOk result (λ all. (k : ℕ) (word : _) (number : T) → k < length words.now → T.from_str_gives (slice_index_or words.now k word).now (Ok (slice_index_or all.items k number))) }
+{
+    words
+        .iter()
+        .map(|word| -> Result<T, E> { Ok(word.parse::<T>()?) })
+        .try_collect(alloc)
+}
+
+/// The bytes that hexadecimal digits write down; letters among them stand in lower case.
+pub fn bytes_of(alloc: Global, digits: &str) -> anyhow::Result<Vec<u8>>
+    ensures bytes { IfOk result (λ bytes. decode_of digits.now ≡ Ok bytes.items) }
+    ensures lower { IfOk result (λ bytes. digits.now ≡ encode_lower bytes.items) }
+{
+    let bytes = hex::decode(alloc, digits)?;
+    let lower = hex::encode(alloc, bytes.as_slice())?;
+    ensure!(lower.as_str() == digits, "a digit in upper case");
+    Ok(bytes)
+}
+
+/// The bytes of a file that hexadecimal digits write down; none for `-`.
+pub fn file_of(alloc: Global, digits: &str) -> anyhow::Result<Vec<u8>>
+    ensures bytes { IfOk result (λ file. ((digits.now ≡ codes "-") × (file.items ≡ [])) ⊎ (decode_of digits.now ≡ Ok file.items)) }
+    ensures lower { IfOk result (λ file. ((digits.now ≡ codes "-") × (file.items ≡ [])) ⊎ (digits.now ≡ encode_lower file.items)) }
+{
+    if digits == "-" {
+        return Ok(Vec::new(alloc));
+    }
+    bytes_of(alloc, digits)
+}
+
+/// The slots of runs, each a length and what its slots hold.
+pub fn slots_of(alloc: Global, runs: &[u32]) -> anyhow::Result<Vec<u8>>
+    ensures { IfOk result (λ slots. slots.items ≡ slots_of runs.now) }
+{
+    let mut slots = Vec::new(alloc);
+    let mut left = runs;
+    while let [length, held, rest @ ..] = left {
+        let held = u8::try_from(*held)?;
+        slots.extend(repeat_n(held, usize::try_from(*length)?))?;
+        left = rest;
+    }
+    ensure!(left.is_empty(), "an odd number of numbers");
+    Ok(slots)
+}
+
+#[cfg(test)]
+mod tests;
