@@ -1,7 +1,4 @@
 //! The schedule: the tables that say which step comes next, built, asked and kept.
-ghost use Rattle.first_order.specs.Shows.{Shows, WhereShown, TellsSafe};
-ghost use Rattle.first_order.specs.Tables.{Asked, Fresh, Kept, TakesLast, keeps_in, marked_after, yields_in, Finished};
-ghost use Rattle.first_order.specs.Tables.{any_step, KeepsReady};
 ghost use Rattle.reached.specs.Led.{Led, has_at};
 ghost use Rattle.sets.specs.Flags.{has};
 ghost use Rattle.std.specs.Prelude.{◌≡◌, ℕ, ◌+◌, ◌-◌, ◌^◌, ◌<◌, true, cond, not, ◌&&◌, ◌||◌, ◌==◌, false, Decides};
@@ -43,7 +40,8 @@ pub struct Schedule {
 }
 
 impl Schedule {
-    ghost use Rattle.first_order.specs.Tables.{Fresh, input_in, yields_in};
+    ghost use Rattle.first_order.specs.Tables.{Fresh, input_in, yields_in, Asked, Kept, TakesLast, keeps_in};
+    ghost use Rattle.first_order.specs.Tables.{marked_after, Finished, any_step, KeepsReady};
 
     /// A schedule of nothing, to be read into.
     pub fn new() -> Schedule
@@ -81,6 +79,8 @@ impl Schedule {
 }
 
 impl Schedule {
+    ghost use Rattle.first_order.specs.Shows.{Shows, WhereShown, TellsSafe};
+
     /// Reads the net with these counts at its places and this tally into a new schedule; what a row lacks is 0.
     // The rows are filled where they lie, since a value that is given back is copied, and only for the steps that the
     // net has.

@@ -2,7 +2,6 @@
 ghost use Rattle.answers.specs.Answers.{fire_refusal, fire_answer, after_fire, resume_refusal, resume_answer, after_resume, order_memory, unless};
 ghost use Rattle.answers.specs.Findings.{survey_answer, findings_memory};
 ghost use Rattle.answers.specs.States.{target_of};
-ghost use Rattle.sittings.specs.Sittings.{sitting_state};
 ghost use Rattle.std.specs.Prelude.{◌≡◌, length, ℕ, ◌≤◌};
 ghost use Rattle.theory.specs.Rows.{at};
 ghost use Rattle.theory.specs.Sums.{sum_to};
@@ -80,6 +79,8 @@ impl<N: Net, B: Board> Sitting<N, B> {
 }
 
 impl<N: Net, B: Board> Sitting<N, B> {
+    ghost use Rattle.sittings.specs.Sittings.{sitting_state};
+
     /// Fires one step (transition) and counts it. Refused, with all as it was, for the first that is wrong:
     /// `NoSuchStep`, `DoneLimit`, `InputEmpty`, `SpareShort`; the block that it takes makes room for its yields.
     pub fn fire(&mut self, step: u16) -> Result<(), Refusal>
