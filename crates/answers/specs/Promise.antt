@@ -122,7 +122,7 @@ pub record InAnyState (N : NetMeaning) (s : State) : Type 0 where
 
 -- WHAT HOLDS AFTER EVERY LIST OF CALLS
 
--- a transcript of the calls: one answer to each, and in turn what is said to it in the state that the calls before it left
+-- a transcript of the calls: one answer to each, in turn what is said to it in the state that the calls before it left
 pub record Transcript (N : NetMeaning) (start : State) (calls : List Call) (said : List Answer) : Type 0 where
   pub one_each : length said ≡ length calls
   pub in_turn : (earlier : List Call) (c : Call) (later : List Call) → calls ≡ earlier ++ (c ∷ later) →
@@ -157,7 +157,7 @@ pub record AfterCalls (N : NetMeaning) (start : State) (calls : List Call) : Typ
   pub transcript : Transcript N start calls (answers_to N start calls)
   -- the counters stand for accepted calls alone: a fire adds 1 to its step's, a resume adds its tally
   pub counts_accepted_work : (t : ℕ) → (after_calls N start calls).done t ≡ accepted_times N start calls t
-  -- the steps fired so far, in their order, lead from the start to what the sitting holds, with the done row as their counts
+  -- the steps fired so far, in their order, lead from the start to what the sitting holds; their counts are the done row
   pub history_leads : Leads N (history N start calls) start (after_calls N start calls)
   pub history_counts : Realizes N start.counts (after_calls N start calls).done (history N start calls)
   -- the done total stays within its limit, and only steps of the net are done

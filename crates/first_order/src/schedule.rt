@@ -169,7 +169,8 @@ impl Schedule {
                 .is_none()
     }
 
-    /// Whether the input place, where the step does not yield, is reached from another place that holds a block after it.
+    /// Whether the input place, where the step does not yield, is reached from another place that holds a block
+    /// after it.
     fn comes_back(&mut self, step: u16) -> bool
         requires inside { step < 128 }
         requires none { yields_in self.old step (at self.old.inputs step) ≡ false }

@@ -3,8 +3,14 @@ ghost use Rattle.lines.specs.Lines.{numbers, three_digits, Puts};
 ghost use Rattle.std.specs.Prelude.{◌≡◌, ◌+◌, ◌<◌, ◌≤◌, ◌∷◌, [], length, take, decimal};
 
 /// A space and a number below 128, in four bytes each: most numbers are steps, and four bytes are put at once.
-static PIECES: [u8; 512] =
-    *b" 0   1   2   3   4   5   6   7   8   9   10  11  12  13  14  15  16  17  18  19  20  21  22  23  24  25  26  27  28  29  30  31  32  33  34  35  36  37  38  39  40  41  42  43  44  45  46  47  48  49  50  51  52  53  54  55  56  57  58  59  60  61  62  63  64  65  66  67  68  69  70  71  72  73  74  75  76  77  78  79  80  81  82  83  84  85  86  87  88  89  90  91  92  93  94  95  96  97  98  99  100 101 102 103 104 105 106 107 108 109 110 111 112 113 114 115 116 117 118 119 120 121 122 123 124 125 126 127";
+static PIECES: [u8; 512] = *b" \
+        0   1   2   3   4   5   6   7   8   9   10  11  12  13  14  15  16  17  18  19  \
+        20  21  22  23  24  25  26  27  28  29  30  31  32  33  34  35  36  37  38  39  \
+        40  41  42  43  44  45  46  47  48  49  50  51  52  53  54  55  56  57  58  59  \
+        60  61  62  63  64  65  66  67  68  69  70  71  72  73  74  75  76  77  78  79  \
+        80  81  82  83  84  85  86  87  88  89  90  91  92  93  94  95  96  97  98  99  \
+        100 101 102 103 104 105 106 107 108 109 110 111 112 113 114 115 116 117 118 119 \
+        120 121 122 123 124 125 126 127";
 
 /// Puts each number after a space, from a position on, and answers where they end.
 pub(crate) fn put_numbers(line: &mut [u8], begin: usize, row: &[u16]) -> usize
