@@ -7,6 +7,7 @@ import re
 import sys
 
 from boards import PLACES, SLOTS, Allowance, CountBoard, Refused, Renaming, SlotBoard, picture
+from shown import shown
 
 WORDS = {
     16: "the place is above 63",
@@ -98,7 +99,7 @@ def main():
         if not code:
             continue
         before = picture(desk.board)
-        print(f"> {code}")
+        print(f"> {shown(code)}")
         print(f"  {desk.answer(code.split())}")
         after = picture(desk.board)
         for place in range(PLACES):

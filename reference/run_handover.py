@@ -9,6 +9,7 @@ import sys
 
 import nets
 from boards import PLACES, Allowance, CountBoard, Refused, Renaming, SlotBoard
+from shown import shown
 from sittings import AT_LEAST, CUT_OFF, EXACT, SHORT, Sitting, Target
 
 WORDS = {
@@ -245,7 +246,7 @@ def carry_out(day):
     net = day.net()
     first, second = Sitting(net, day.first_board()), Sitting(net, day.second_board())
     for line, call in day.calls:
-        show("> " + line, answer(first, call)[0])
+        show("> " + shown(line), answer(first, call)[0])
     done = first.done[: net.steps]
     print(" ".join(["counters"] + [str(n) for n in done]))
     target = Target(tuple(first.marking()), EXACT)

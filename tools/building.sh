@@ -125,7 +125,8 @@ place() {
         fail "$1 is built, but its program cannot be put into $built: $why"
     rm -rf -- "$new"
     new=
-    find "$built" -maxdepth 1 -name "$1-*" ! -name "$1-$2" -mmin +60 -exec rm -rf {} + 2>/dev/null
+    find "$built" -maxdepth 1 \( -name "$1-*" ! -name "$1-$2" -o -name 'new-*' \) -mmin +60 \
+        -exec rm -rf {} + 2>/dev/null
 }
 
 minutes() {

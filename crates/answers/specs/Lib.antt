@@ -7,3 +7,4 @@ pub mod Reasons
 pub mod Promise
 pub mod Pinned
 pub mod Cases
+pub mod Targets

@@ -1,6 +1,6 @@
 //! A resume on a new sitting.
 ghost use Rattle.c_library.specs.NewSittings.{NewResumed};
-ghost use Rattle.answers.specs.States.{target_of};
+ghost use Rattle.answers.specs.Targets.{lent_target};
 
 use answers::Target;
 use boards::CountBoard;
@@ -17,7 +17,7 @@ pub(crate) fn resume_new(
     target: Target<'_>,
     order: &mut [u16],
 ) -> Result<usize, Refusal>
-    ensures { NewResumed file.now counts.now spare tally.now (target_of target.entry.numbers.now target.entry.kind) order.old result order.new }
+    ensures { NewResumed file.now counts.now spare tally.now (lent_target target.entry) order.old result order.new }
 {
     let net = ChainedNet::try_from(file)?;
     let mut board = CountBoard::new();

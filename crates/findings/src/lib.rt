@@ -3,7 +3,8 @@
 
 ghost use Rattle.std.specs.Prelude.{◌≡◌, length};
 ghost use Rattle.answers.specs.Findings.{survey_answer, findings_memory};
-ghost use Rattle.answers.specs.States.{state_of, target_of};
+ghost use Rattle.answers.specs.States.{state_of};
+ghost use Rattle.answers.specs.Targets.{lent_target};
 
 mod causes;
 mod first_cause;
@@ -29,8 +30,8 @@ pub fn list_findings<'a, N: Net, B: Board>(
     target: Target<'a>,
     memory: &mut [Finding],
 ) -> Result<usize, Refusal>
-    ensures answer { result ≡ survey_answer (N.net net.now) (state_of (B.counts board.now) (B.spare board.now) done.now) tally.now (target_of target.entry.numbers.now target.entry.kind) (length memory.old) }
-    ensures memory { memory.new ≡ findings_memory (N.net net.now) (state_of (B.counts board.now) (B.spare board.now) done.now) tally.now (target_of target.entry.numbers.now target.entry.kind) memory.old }
+    ensures answer { result ≡ survey_answer (N.net net.now) (state_of (B.counts board.now) (B.spare board.now) done.now) tally.now (lent_target target.entry) (length memory.old) }
+    ensures memory { memory.new ≡ findings_memory (N.net net.now) (state_of (B.counts board.now) (B.spare board.now) done.now) tally.now (lent_target target.entry) memory.old }
 {
     let kind = check_survey(net, done, tally, target, memory.len())?;
     let counts = all_counts(board);

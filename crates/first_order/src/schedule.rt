@@ -1,7 +1,4 @@
 //! The schedule: the tables that say which step comes next, built, asked and kept.
-ghost use Rattle.first_order.specs.Shows.{Shows, WhereShown, TellsSafe};
-ghost use Rattle.first_order.specs.Tables.{Asked, Fresh, Kept, TakesLast, keeps_in, marked_after, yields_in, Finished};
-ghost use Rattle.first_order.specs.Tables.{any_step, KeepsReady};
 ghost use Rattle.reached.specs.Led.{Led, has_at};
 ghost use Rattle.sets.specs.Flags.{has};
 ghost use Rattle.std.specs.Prelude.{◌≡◌, ℕ, ◌+◌, ◌-◌, ◌^◌, ◌<◌, true, if◌then◌else◌, not, ◌&&◌, ◌||◌, ◌==◌, false, ◌↔◌, IsTrue};
@@ -81,6 +78,9 @@ impl Schedule {
 }
 
 impl Schedule {
+    ghost use Rattle.first_order.specs.Shows.{Shows};
+    ghost use Rattle.first_order.specs.Tables.{Asked, Fresh};
+
     /// Reads the net with these counts at its places and this tally into a new schedule; what a row lacks is 0.
     // The rows are filled where they lie, since a value that is given back is copied, and only for the steps that the
     // net has.
@@ -116,6 +116,9 @@ impl Schedule {
 }
 
 impl Schedule {
+    ghost use Rattle.first_order.specs.Shows.{Shows, WhereShown, TellsSafe};
+    ghost use Rattle.first_order.specs.Tables.{Kept, TakesLast, keeps_in, marked_after, yields_in};
+
     /// The least step that is safe, where no place is cut off. Only what searches found changes in the schedule.
     pub fn next_step(&mut self) -> Option<u16>
         ensures answer { WhereShown self.old (λ N m x. NoPlaceCutOff N m x → result ≡ least (is_safe N m x) N.steps) }
@@ -180,6 +183,9 @@ impl Schedule {
 }
 
 impl Schedule {
+    ghost use Rattle.first_order.specs.Shows.{Shows, WhereShown};
+    ghost use Rattle.first_order.specs.Tables.{Finished, any_step};
+
     /// Leaves one less of a step that is left.
     pub(crate) fn count_down(&mut self, step: u16)
         requires { step < 128 }
@@ -218,6 +224,9 @@ impl Schedule {
 }
 
 impl Schedule {
+    ghost use Rattle.first_order.specs.Shows.{Shows, WhereShown};
+    ghost use Rattle.first_order.specs.Tables.{KeepsReady};
+
     /// Fires a step that is ready.
     // The yields are put down before the block is taken: so no sum passes the limit, and a place that the step takes
     // from and yields at stays marked.

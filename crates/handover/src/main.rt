@@ -24,12 +24,6 @@ use std::process::ExitCode;
 /// How long a hand-over file may be: 1 MiB.
 const FILE_BYTES: u32 = 1_048_576;
 
-/// The net of a day.
-fn net_of(day: &Day<'_>) -> anyhow::Result<GridNet> {
-    let file = day.net_bytes()?;
-    Ok(GridNet::try_from(file.as_slice()).map_err(Unfit::Net)?)
-}
-
 /// The boards of a day and of its hand-over, with the start on both.
 fn boards_of(day: &Day<'_>) -> Result<(SlotBoard, Pile), Unfit> {
     let start = day.start()?;
@@ -44,7 +38,11 @@ fn run(rt: &HostRuntime) -> Result<ExitCode, Failure> {
     let source = only_source(alloc, matches.get_str("FILE"))?;
     let text = source.read_text(rt, PROGRAM, FILE_BYTES)?;
     let day = Day::read(alloc, text.as_str()).map_err(|error| source.fault(alloc, error))?;
-    let net = net_of(&day).map_err(|error| source.fault(alloc, error))?;
+    let file = day.net_bytes().map_err(|error| source.fault(alloc, error))?;
+    let net = GridNet::try_from(file.as_slice()).map_err(|refusal| source.fault(
+        alloc,
+        Unfit::Net(refusal),
+    ))?;
     let (first, second) = boards_of(&day).map_err(|unfit| source.fault(alloc, unfit))?;
     let memory = usize::from(day.sizes.order);
     let ended = transcribe(alloc, net, first, second, day.calls.as_slice(), memory)?;

@@ -1,6 +1,6 @@
 //! Making calls on a sitting, over lent memory alone.
 ghost use Rattle.handovers.specs.Made.{call_of, Made, AllMade};
-ghost use Rattle.sittings.specs.Sittings.{sitting_state};
+ghost use Rattle.sittings.specs.Sittings.{sitting_net, sitting_state};
 ghost use Rattle.std.specs.Prelude.{◌≡◌, ◌≤◌, length, map};
 
 use crate::sitting_calls::{Answer, Call, Done};
@@ -17,8 +17,8 @@ pub fn make<N: Net, B: Board>(
     order: &mut [u16],
     findings: &mut [Finding],
 ) -> Answer
-    ensures net { sitting.new.net ≡ sitting.old.net }
-    ensures made { Made (N.net sitting.old.net) (sitting_state B.Board sitting.old) (call_of (length order.old) (length findings.old) call.now) order.old findings.old result (sitting_state B.Board sitting.new) order.new findings.new }
+    ensures net { sitting_net sitting.new ≡ sitting_net sitting.old }
+    ensures made { Made (N.net (sitting_net sitting.old)) (sitting_state B.Board sitting.old) (call_of (length order.old) (length findings.old) call.now) order.old findings.old result (sitting_state B.Board sitting.new) order.new findings.new }
 {
     match call {
         Call::Fire(step) => sitting.fire(*step).map(|()| Done::Fired),
@@ -41,8 +41,8 @@ pub(crate) fn make_all<N: Net, B: Board>(
     said: &mut [Answer],
 )
     requires { length calls.now ≤ length said.old }
-    ensures net { sitting.new.net ≡ sitting.old.net }
-    ensures made { AllMade (N.net sitting.old.net) (sitting_state B.Board sitting.old) (map (call_of (length order.old) (length findings.old)) calls.now) order.old findings.old said.old (sitting_state B.Board sitting.new) order.new findings.new said.new }
+    ensures net { sitting_net sitting.new ≡ sitting_net sitting.old }
+    ensures made { AllMade (N.net (sitting_net sitting.old)) (sitting_state B.Board sitting.old) (map (call_of (length order.old) (length findings.old)) calls.now) order.old findings.old said.old (sitting_state B.Board sitting.new) order.new findings.new said.new }
 {
     for (i, call) in calls.iter().enumerate() {
         said[i] = make(sitting, call, order, findings);

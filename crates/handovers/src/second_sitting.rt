@@ -4,7 +4,7 @@ ghost use Rattle.answers.specs.Promise.{Promise};
 ghost use Rattle.answers.specs.States.{new_on, state_of};
 ghost use Rattle.handovers.specs.Made.{call_of, Made};
 ghost use Rattle.handovers.specs.HandedOver.{counters_of, HandedOver};
-ghost use Rattle.sittings.specs.Sittings.{sitting_state};
+ghost use Rattle.sittings.specs.Sittings.{sitting_net, sitting_state};
 ghost use Rattle.std.specs.Prelude.{◌≡◌, ◌<◌, [], IfErr, IfOk, length, map, MatchResult, OnErr};
 ghost use Rattle.theory.specs.Rows.{at};
 
@@ -49,7 +49,7 @@ pub(crate) fn replay<N: Net, C: Board>(
     marking: &[u32; PLACES],
     order: &mut [u16],
 ) -> (Answer, Sitting<N, C>)
-    ensures net { result.1.net ≡ net }
+    ensures net { sitting_net result.1 ≡ net }
     ensures made { Made (N.net net) (new_on (C.counts board) (C.spare board)) (counters_of (N.net net) (state_of (at marking.now) 0 done.now) (length order.old)) order.old [] result.0 (sitting_state C.Board result.1) order.new [] }
 {
     let request = Request {
@@ -81,7 +81,7 @@ pub fn hand_over<N: Net, B: Board, C: Board>(
 ) -> Result<HandOver<N, B, C>, Unmade<N, B, C>>
     ensures promise { Promise }
     ensures pinned { Pinned }
-    ensures net { MatchResult result (λ h. h.second.net ≡ net) (λ u. u.net ≡ net) }
+    ensures net { MatchResult result (λ h. sitting_net h.second ≡ net) (λ u. u.net ≡ net) }
     ensures handed_over { IfOk result (λ h.
         let start = new_on (B.counts first) (B.spare first) in
         let other = new_on (C.counts second) (C.spare second) in

@@ -6,6 +6,7 @@ mod options;
 mod verdicts;
 
 use command_line::{Failure, Source, end, sources, words};
+use name_lists::{Row, judge_list};
 use options::{PROGRAM, command};
 use std::io;
 use std::io::{BufWriter, Write};
@@ -15,7 +16,7 @@ use verdicts::Verdicts;
 /// How many bytes of verdicts are written at once.
 const ROOM: usize = 65_536;
 
-/// Judges what the command line names, and says whether each file was read.
+/// Judges what the command line names.
 fn judge_asked<W: Write + Drop>(
     rt: &HostRuntime,
     verdicts: &mut Verdicts<'_, W>,
@@ -23,10 +24,14 @@ fn judge_asked<W: Write + Drop>(
     let words = words(rt, PROGRAM)?;
     let matches = command(rt.alloc())?.try_get_matches_from(words.as_slice())?;
     if let Some(list) = matches.get_str("files0") {
-        return name_lists::judge_files(verdicts, &Source::of_word(rt.alloc(), list)?);
+        return judge_list(verdicts, &Source::of_word(rt.alloc(), list)?, Row::Name);
     }
     if let Some(list) = matches.get_str("named0") {
-        return name_lists::judge_named(verdicts, &Source::of_word(rt.alloc(), list)?);
+        return judge_list(
+            verdicts,
+            &Source::of_word(rt.alloc(), list)?,
+            Row::NameAndText,
+        );
     }
     let sources = sources(rt.alloc(), matches.get_strs("FILE").unwrap_or(&[]))?;
     if sources.is_empty() {

@@ -1,4 +1,6 @@
 //! Lists of names, each ended by a zero byte.
+ghost use Rattle.std.specs.Prelude.{◌<◌};
+
 use crate::options::PROGRAM;
 use crate::verdicts::Verdicts;
 use command_line::{Failure, Source, Unread};
@@ -17,26 +19,30 @@ fn names_of(alloc: Global, list: &[u8]) -> Result<Vec<&[u8]>, AllocError> {
     names.split(|byte| *byte == 0).collect(alloc)
 }
 
-/// Judges the files of a list of names.
-pub(crate) fn judge_files<W: Write + Drop>(
-    verdicts: &mut Verdicts<'_, W>,
-    list: &Source,
-) -> Result<(), Failure> {
-    judge_list(verdicts, list, 1)
+/// What a list has for each file.
+#[derive(Clone, Copy)]
+pub(crate) enum Row {
+    Name,
+    /// The name, and what is printed for it.
+    NameAndText,
 }
 
-/// Judges the files of a list that has behind each name what is printed for it.
-pub(crate) fn judge_named<W: Write + Drop>(
-    verdicts: &mut Verdicts<'_, W>,
-    list: &Source,
-) -> Result<(), Failure> {
-    judge_list(verdicts, list, 2)
+impl Row {
+    fn width(self) -> usize
+        ensures { 0 < result }
+    {
+        match self {
+            Row::Name => 1,
+            Row::NameAndText => 2,
+        }
+    }
 }
 
-fn judge_list<W: Write + Drop>(
+/// Judges the files of a list.
+pub(crate) fn judge_list<W: Write + Drop>(
     verdicts: &mut Verdicts<'_, W>,
     list: &Source,
-    width: usize,
+    row: Row,
 ) -> Result<(), Failure> {
     let alloc = verdicts.rt.alloc();
     let bytes = match list.read_whole(verdicts.rt, PROGRAM, LIST_BYTES) {
@@ -44,11 +50,12 @@ fn judge_list<W: Write + Drop>(
         Err(unread) => return verdicts.say_unread(list, &unread),
     };
     let names = names_of(alloc, bytes.as_slice())?;
-    for row in names.chunks(width) {
-        match row {
-            [name, ..] if name.is_empty() => verdicts.say_unread(list, &Unread::NoName)?,
-            [name] if width == 1 => verdicts.judge(&Source::file(alloc, *name, *name)?)?,
-            [name, shown] => verdicts.judge(&Source::file(alloc, *name, *shown)?)?,
+    for parts in names.chunks(row.width()) {
+        match (row, parts) {
+            (Row::Name, [name]) => verdicts.judge(&Source::file(alloc, *name, *name)?)?,
+            (Row::NameAndText, [name, text]) => {
+                verdicts.judge(&Source::file(alloc, *name, *text)?)?
+            }
             _ => verdicts.say_unread(list, &Unread::NoShown)?,
         }
     }

@@ -1,8 +1,7 @@
 //! A sitting: one net, one board and one done row, and its calls fire, resume and survey.
 ghost use Rattle.answers.specs.Answers.{fire_refusal, fire_answer, after_fire, resume_refusal, resume_answer, after_resume, order_memory, unless};
 ghost use Rattle.answers.specs.Findings.{survey_answer, findings_memory};
-ghost use Rattle.answers.specs.States.{target_of};
-ghost use Rattle.sittings.specs.Sittings.{sitting_state};
+ghost use Rattle.answers.specs.Targets.{lent_target};
 ghost use Rattle.std.specs.Prelude.{◌≡◌, length, ℕ, ◌≤◌};
 ghost use Rattle.theory.specs.Rows.{at};
 ghost use Rattle.theory.specs.Sums.{sum_to};
@@ -34,11 +33,13 @@ pub struct Sitting<N: Net, B: Board> {
 }
 
 impl<N: Net, B: Board> Sitting<N, B> {
+    ghost use Rattle.sittings.specs.Sittings.{done_row, sitting_board, sitting_net, sitting_state};
+
     /// A sitting in which nothing was done yet; the board may hold anything.
     pub fn new(net: N, board: B) -> Sitting<N, B>
-        ensures net { result.net ≡ net }
-        ensures board { result.board ≡ board }
-        ensures done { (t : ℕ) → at result.done t ≡ 0 }
+        ensures net { sitting_net result ≡ net }
+        ensures board { sitting_board result ≡ board }
+        ensures done { (t : ℕ) → at (done_row result) t ≡ 0 }
     {
         Sitting {
             net,
@@ -49,43 +50,41 @@ impl<N: Net, B: Board> Sitting<N, B> {
 
     /// The net.
     pub fn net(&self) -> &N
-        ensures { result.now ≡ self.now.net }
+        ensures { result.now ≡ sitting_net self.now }
     {
         &self.net
     }
 
     /// The board.
     pub fn board(&self) -> &B
-        ensures { result.now ≡ self.now.board }
+        ensures { result.now ≡ sitting_board self.now }
     {
         &self.board
     }
 
     /// The done row: how often each step was fired (the Parikh vector so far), 128 counts; 0 for steps past the net's.
     pub fn done(&self) -> &[u16]
-        ensures { result.now ≡ self.now.done }
+        ensures { result.now ≡ done_row self.now }
     {
         &self.done
     }
 
     /// The net, the board and the done row, given back.
     pub fn into_parts(self) -> (N, B, [u16; DONE_COUNTS])
-        ensures net { result.0 ≡ self.net }
-        ensures board { result.1 ≡ self.board }
-        ensures done { result.2 ≡ self.done }
+        ensures net { result.0 ≡ sitting_net self }
+        ensures board { result.1 ≡ sitting_board self }
+        ensures done { result.2 ≡ done_row self }
     {
         let Sitting { net, board, done } = self;
         (net, board, done)
     }
-}
 
-impl<N: Net, B: Board> Sitting<N, B> {
     /// Fires one step (transition) and counts it. Refused, with all as it was, for the first that is wrong:
     /// `NoSuchStep`, `DoneLimit`, `InputEmpty`, `SpareShort`; the block that it takes makes room for its yields.
     pub fn fire(&mut self, step: u16) -> Result<(), Refusal>
-        ensures net { self.new.net ≡ self.old.net }
-        ensures answer { result ≡ fire_answer (N.net self.old.net) (sitting_state B.Board self.old) step }
-        ensures after { let net = (N.net self.old.net) in
+        ensures net { sitting_net self.new ≡ sitting_net self.old }
+        ensures answer { result ≡ fire_answer (N.net (sitting_net self.old)) (sitting_state B.Board self.old) step }
+        ensures after { let net = N.net (sitting_net self.old) in
             let before = sitting_state B.Board self.old in
             sitting_state B.Board self.new ≡ unless (fire_refusal net before step) before (after_fire net before step) }
     {
@@ -116,13 +115,13 @@ impl<N: Net, B: Board> Sitting<N, B> {
         target: Target<'_>,
         order: &mut [u16],
     ) -> Result<usize, Refusal>
-        ensures net { self.new.net ≡ self.old.net }
-        ensures answer { result ≡ resume_answer (N.net self.old.net) (sitting_state B.Board self.old) tally.now (target_of target.entry.numbers.now target.entry.kind) (length order.old) }
-        ensures after { let net = (N.net self.old.net) in
+        ensures net { sitting_net self.new ≡ sitting_net self.old }
+        ensures answer { result ≡ resume_answer (N.net (sitting_net self.old)) (sitting_state B.Board self.old) tally.now (lent_target target.entry) (length order.old) }
+        ensures after { let net = N.net (sitting_net self.old) in
             let before = sitting_state B.Board self.old in
-            let target = target_of target.entry.numbers.now target.entry.kind in
+            let target = lent_target target.entry in
             sitting_state B.Board self.new ≡ unless (resume_refusal net before tally.now target (length order.old)) before (after_resume net before tally.now) }
-        ensures memory { order.new ≡ order_memory (N.net self.old.net) (sitting_state B.Board self.old) tally.now (target_of target.entry.numbers.now target.entry.kind) order.old }
+        ensures memory { order.new ≡ order_memory (N.net (sitting_net self.old)) (sitting_state B.Board self.old) tally.now (lent_target target.entry) order.old }
     {
         let mut table = NetTable::new();
         table.read(&self.net);
@@ -141,8 +140,8 @@ impl<N: Net, B: Board> Sitting<N, B> {
         target: Target<'_>,
         findings: &mut [Finding],
     ) -> Result<usize, Refusal>
-        ensures answer { result ≡ survey_answer (N.net self.now.net) (sitting_state B.Board self.now) tally.now (target_of target.entry.numbers.now target.entry.kind) (length findings.old) }
-        ensures memory { findings.new ≡ findings_memory (N.net self.now.net) (sitting_state B.Board self.now) tally.now (target_of target.entry.numbers.now target.entry.kind) findings.old }
+        ensures answer { result ≡ survey_answer (N.net (sitting_net self.now)) (sitting_state B.Board self.now) tally.now (lent_target target.entry) (length findings.old) }
+        ensures memory { findings.new ≡ findings_memory (N.net (sitting_net self.now)) (sitting_state B.Board self.now) tally.now (lent_target target.entry) findings.old }
     {
         let mut table = NetTable::new();
         table.read(&self.net);

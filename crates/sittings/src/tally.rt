@@ -1,6 +1,7 @@
 //! Firing a whole tally: its first order, written down and fired on the board.
 ghost use Rattle.answers.specs.Answers.{resume_refusal};
-ghost use Rattle.answers.specs.States.{state_of, target_of};
+ghost use Rattle.answers.specs.States.{state_of};
+ghost use Rattle.answers.specs.Targets.{lent_target};
 ghost use Rattle.sittings.specs.Fired.{Fired};
 ghost use Rattle.std.specs.Prelude.{◌≡◌};
 
@@ -23,7 +24,7 @@ pub(crate) fn fire_tally<N: Net, B: Board>(
     target: Target<'_>,
     memory: &mut [u16],
 ) -> Result<usize, Refusal>
-    ensures { Fired (N.net net.now) (state_of (B.counts board.old) (B.spare board.old) done.now) tally.now (target_of target.entry.numbers.now target.entry.kind) memory.old result (B.counts board.new) (B.spare board.new) memory.new }
+    ensures { Fired (N.net net.now) (state_of (B.counts board.old) (B.spare board.old) done.now) tally.now (lent_target target.entry) memory.old result (B.counts board.new) (B.spare board.new) memory.new }
 {
     let flow = Flow::of(net, tally);
     let kind = check_sizes(&flow, board.spare(), done, target, memory.len())?;

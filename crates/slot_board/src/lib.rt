@@ -127,6 +127,8 @@ fn fill_highest(slots: &mut [u8], place: u8, n: u32)
 
 // `move_all` stays the trait's, which says no: which slots are filled depends on the sequence of takes and puts
 impl Board for SlotBoard {
+    ghost use Rattle.slot_board.specs.Shown.{slot_bytes};
+
     ghost counts = { λ b. counts_of b.slots };
 
     ghost spare = { λ b. occurs 0 b.slots };

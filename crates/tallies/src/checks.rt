@@ -3,7 +3,8 @@ ghost use Rattle.std.specs.Prelude.{◌≡◌, ℕ, Some, None, if◌then◌else
 ghost use Rattle.answers.specs.Answers.{rows_fit, size_refusal};
 ghost use Rattle.answers.specs.Findings.{survey_refusal};
 ghost use Rattle.tallies.specs.Checked.{Checked};
-ghost use Rattle.answers.specs.States.{state_of, target_of};
+ghost use Rattle.answers.specs.States.{state_of};
+ghost use Rattle.answers.specs.Targets.{lent_target};
 ghost use Rattle.refusals.specs.declared.Refusal.TheVariants.{RowsUnfit};
 ghost use Rattle.theory.specs.Firing.{Marking};
 
@@ -16,7 +17,7 @@ use refusals::Refusal;
 /// The kind of the target. Refused: `RowsUnfit`, unless there is one, the tally has a number for each step and the
 /// target one for each place.
 pub fn check_rows<N: Net>(net: &N, tally: &[u16], target: Target<'_>) -> Result<Kind, Refusal>
-    ensures { Checked (if rows_fit (N.net net.now) tally.now (target_of target.entry.numbers.now target.entry.kind) then None else Some RowsUnfit) target.entry.kind result }
+    ensures { Checked (if rows_fit (N.net net.now) tally.now (lent_target target.entry) then None else Some RowsUnfit) target.entry.kind result }
 {
     if tally.len() != usize::from(net.steps()) {
         return Err(Refusal::RowsUnfit);
@@ -38,7 +39,7 @@ pub fn check_sizes<N: Net>(
 ) -> Result<Kind, Refusal>
     ensures { (counts : Marking) → let net = (N.net flow.now.net.now) in
         let before = state_of counts spare done.now in
-        let wanted = target_of target.entry.numbers.now target.entry.kind in
+        let wanted = lent_target target.entry in
         Checked (size_refusal net before flow.now.tally.now wanted memory) target.entry.kind result }
 {
     let kind = check_rows(flow.net, flow.tally, target)?;
@@ -64,7 +65,7 @@ pub fn check_survey<N: Net>(
     target: Target<'_>,
     memory: usize,
 ) -> Result<Kind, Refusal>
-    ensures { (counts : Marking) (spare : ℕ) → Checked (survey_refusal (N.net net.now) (state_of counts spare done.now) tally.now (target_of target.entry.numbers.now target.entry.kind) memory) target.entry.kind result }
+    ensures { (counts : Marking) (spare : ℕ) → Checked (survey_refusal (N.net net.now) (state_of counts spare done.now) tally.now (lent_target target.entry) memory) target.entry.kind result }
 {
     let kind = check_rows(net, tally, target)?;
     if done_total(done) + steps_asked(net, tally) > DONE_LIMIT {
