@@ -4,7 +4,7 @@ use Rattle.std.specs.Prelude.{ℕ, suc, ◌+◌, if◌then◌else◌, ◌&&◌, 
 use Rattle.theory.specs.Firing.{times}
 use Rattle.refusals.specs.declared.Refusal.{Refusal}
 
--- how many slots hold a number: at 0, how many are empty
+-- how many slots hold a number: at 0, how many are empty; not unfolded by itself, as there are 4,096 slots
 unfoldable pub occurs : ℕ → List ℕ → ℕ
 occurs held slots = times slots held
 
