@@ -4,6 +4,7 @@ pub mod Missed
 pub mod Resumes
 pub mod Leading
 pub mod AsFires
+mod Rising
 pub mod Surveys
 pub mod Histories
 pub mod Transcripts

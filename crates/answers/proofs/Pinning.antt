@@ -15,8 +15,9 @@ use Rattle.answers.specs.declared.Finding.{Finding}
 use Rattle.answers.specs.States.{Target}
 use Rattle.answers.specs.Answers.{the_order, fire_refusal, resume_refusal}
 use Rattle.answers.specs.Findings.{findings, survey_refusal}
-use Rattle.answers.specs.Reasons.{Among, Rising, Exactly, findings_at, AllFound}
+use Rattle.answers.specs.Reasons.{Exactly, findings_at, AllFound}
 use Rattle.answers.specs.Pinned.{ComesExactly, Pinned}
+use Rattle.answers.proofs.Rising.{Among, Rising, among_contains, contains_among, strictly_rising}
 use Rattle.answers.proofs.Leading.{leads_same}
 use Rattle.answers.proofs.Promised.{promise}
 use Rattle.answers.proofs.Transcripts.{one_transcript}
@@ -50,7 +51,9 @@ rising_same (p ∷ ps) (q ∷ qs) r s to from =
 
 exactly_one : (n : ℕ) (P : ℕ → Type 0) (ps qs : List ℕ) → Exactly n P ps → Exactly n P qs → ps ≡ qs
 exactly_one n P ps qs f g =
-    rising_same ps qs f.rising g.rising (λ p a. (g.exact p).1 ((f.exact p).0 a)) (λ p a. (f.exact p).1 ((g.exact p).0 a))
+    rising_same ps qs (strictly_rising ps f.rising) (strictly_rising qs g.rising)
+    (λ p a. contains_among p qs ((g.exact p).1 ((f.exact p).0 (among_contains p ps a))))
+    (λ p a. contains_among p ps ((f.exact p).1 ((g.exact p).0 (among_contains p qs a))))
 
 found_one : (N : NetMeaning) (m : Marking) (x : Tally) (target : Target) (list other : List Finding) →
     AllFound N m x target list → AllFound N m x target other → list ≡ other

@@ -18,7 +18,7 @@ use Rattle.answers.specs.Answers.{unless, written, fire_refusal, resume_refusal,
 use Rattle.answers.specs.Findings.{survey_refusal, findings}
 use Rattle.answers.specs.Calls.{Call, refusal_of, order_of, fired_by, after_call, accepted_answer, said, answer_to, after_calls, history, order_yields}
 use Rattle.answers.specs.Calls.Call.{fire, resume, survey}
-use Rattle.answers.specs.Promise.{NewOn, Leads, Says, Writes, InAnyState, HandOver, ReplayedOn, AfterCalls, Promise}
+use Rattle.answers.specs.Promise.{NewOn, Leads, Says, Writes, InAnyState, ToldAndLeft, HandOver, ReplayedOn, AfterCalls, Promise}
 use Rattle.answers.proofs.Sizes.{fire_fits, fits_fire, why_fire, fire_why, size_fits, survey_fits, fits_survey, why_survey, survey_why}
 use Rattle.answers.proofs.Resumes.{fits_now, such_now, later_now, long_now, accepts, why_resume, resume_why}
 use Rattle.answers.proofs.Leading.{at_past, yields_is, call_leads}
@@ -27,12 +27,34 @@ use Rattle.answers.proofs.Surveys.{finds_all, few_findings}
 use Rattle.answers.proofs.Transcripts.{transcript}
 use Rattle.answers.proofs.Histories.{calls_lead, calls_done, Within, new_within, calls_within, sum_past, blocks_stay, outside_stays}
 
--- A NEW SITTING
-
-new_sittings : (counts : Marking) (spare : ℕ) → NewOn counts spare (new_on counts spare)
-new_sittings counts spare = record { same_counts = λ p. refl; same_spare = refl; nothing_done = λ t. refl }
-
 -- IN ANY STATE
+
+any_state : (N : NetMeaning) → NetLaw N → (s : State) → InAnyState N s
+any_state N law s = record {
+  fires_exactly = λ t. (fire_fits N s t, fits_fire N s t);
+  fire_refused_for = λ t e. (why_fire N s t e, fire_why N s t e);
+  accepts_exactly = λ tally target memory size. (
+    λ h. (the_order N s tally, such_now N law s tally target memory h),
+    λ o. accepts N law s tally target memory (size_fits N s tally target memory size) o.0 o.1,
+  );
+  resumes_exactly = λ tally target memory. (
+    λ h. (fits_now N law s tally target memory h, (the_order N s tally, such_now N law s tally target memory h)),
+    λ h. accepts N law s tally target memory h.0 h.1.0 h.1.1,
+  );
+  resume_refused_for = λ tally target memory e. (
+    why_resume N law s tally target memory e,
+    λ w. resume_why N law s tally target memory w,
+  );
+  writes_the_first = λ tally target memory h. (such_now N law s tally target memory h, later_now N law s tally target memory h);
+  order_long = long_now N law s;
+  resumes_as_fires = resume_as_fires N law s;
+  surveys_exactly = λ tally target memory. (survey_fits N s tally target memory, fits_survey N s tally target memory);
+  survey_refused_for = λ tally target memory e. (why_survey N s tally target memory e, survey_why N s tally target memory e);
+  finds_all = λ tally target memory h.
+      finds_all N law s.counts (at tally) target (survey_fits N s tally target memory h).rows.known_kind;
+}
+
+-- WHAT A CALL TELLS AND LEAVES
 
 -- what is fired and told once it is known whether the call is refused
 fired_when : (N : NetMeaning) (s : State) (c : Call) (o : Option Refusal) → refusal_of N s c ≡ o → fired_by N s c ≡ unless o [] (order_of N s c)
@@ -73,36 +95,15 @@ writes (Some d) items memory fits = record {
   refused = λ e h. refl;
 }
 
-any_state : (N : NetMeaning) → NetLaw N → (s : State) → InAnyState N s
-any_state N law s = record {
-  fires_exactly = λ t. (fire_fits N s t, fits_fire N s t);
-  fire_refused_for = λ t e. (why_fire N s t e, fire_why N s t e);
+told_and_left : (N : NetMeaning) → NetLaw N → (s : State) → ToldAndLeft N s
+told_and_left N law s = record {
   fire_says = λ t. says (fire_refusal N s t) tt;
-  accepts_exactly = λ tally target memory size. (
-    λ h. (the_order N s tally, such_now N law s tally target memory h),
-    λ o. accepts N law s tally target memory (size_fits N s tally target memory size) o.0 o.1,
-  );
-  resumes_exactly = λ tally target memory. (
-    λ h. (fits_now N law s tally target memory h, (the_order N s tally, such_now N law s tally target memory h)),
-    λ h. accepts N law s tally target memory h.0 h.1.0 h.1.1,
-  );
-  resume_refused_for = λ tally target memory e. (
-    why_resume N law s tally target memory e,
-    λ w. resume_why N law s tally target memory w,
-  );
-  writes_the_first = λ tally target memory h. (such_now N law s tally target memory h, later_now N law s tally target memory h);
-  order_long = long_now N law s;
   resume_says = λ tally target memory. says (resume_refusal N s tally target memory) (length (the_order N s tally));
+  survey_says = λ tally target memory. says (survey_refusal N s tally target memory) (length (findings N s.counts (at tally) target));
   resume_writes = λ tally target memory.
       writes (resume_refusal N s tally target (length memory)) (the_order N s tally) memory
       (λ h. subst (λ (k : ℕ). k ≤ length memory) (sym (long_now N law s tally target (length memory) h))
       (fits_now N law s tally target (length memory) h).memory_holds);
-  resumes_as_fires = resume_as_fires N law s;
-  surveys_exactly = λ tally target memory. (survey_fits N s tally target memory, fits_survey N s tally target memory);
-  survey_refused_for = λ tally target memory e. (why_survey N s tally target memory e, survey_why N s tally target memory e);
-  finds_all = λ tally target memory h.
-      finds_all N law s.counts (at tally) target (survey_fits N s tally target memory h).rows.known_kind;
-  survey_says = λ tally target memory. says (survey_refusal N s tally target memory) (length (findings N s.counts (at tally) target));
   survey_writes = λ tally target memory.
       writes (survey_refusal N s tally target (length memory)) (findings N s.counts (at tally) target) memory
       (λ h. few (length (findings N s.counts (at tally) target)) (length memory) (few_findings N law s.counts (at tally) target)
@@ -117,6 +118,11 @@ any_state N law s = record {
   survey_told = λ tally target memory. told_when N s (survey tally target memory) None;
   refusal_told = λ c e. told_when N s c (Some e);
 }
+
+-- A NEW SITTING
+
+new_sittings : (counts : Marking) (spare : ℕ) → NewOn counts spare (new_on counts spare)
+new_sittings counts spare = record { same_counts = λ p. refl; same_spare = refl; nothing_done = λ t. refl }
 
 -- AFTER EVERY LIST OF CALLS
 
@@ -240,4 +246,4 @@ module _ (N : NetMeaning) (law : NetLaw N) (start : State) (new : New start) (ca
   }
 
 pub promise : Promise
-promise = record { new_sittings = new_sittings; in_any_state = any_state; after_any_calls = any_calls }
+promise = record { in_any_state = any_state; after_any_calls = any_calls; told_and_left = told_and_left; new_sittings = new_sittings }

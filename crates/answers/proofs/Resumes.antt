@@ -38,9 +38,9 @@ module _ (b : ℕ → Bool) (P : ℕ → Type 0) (n : ℕ) (decides : (k : ℕ) 
   least_with : (k : ℕ) → least b n ≡ Some k → (k < n) × P k × ((j : ℕ) → j < k → P j → ⊥)
   least_with k h =
       let f = (least_found b n k).0 h in (
-        f.0,
-        (decides k f.0).0 f.1,
-        λ j l. not_from_Decides (b j) (decides j (below f.0 l)) (f.2 j l),
+        f.inside,
+        (decides k f.inside).0 f.passes,
+        λ j l. not_from_Decides (b j) (decides j (below f.inside l)) (f.least j l),
       )
     where
       below : {i k : ℕ} → k < n → i < k → i < n
@@ -48,14 +48,14 @@ module _ (b : ℕ → Bool) (P : ℕ → Type 0) (n : ℕ) (decides : (k : ℕ) 
 
   with_least : (k : ℕ) → k < n → P k → ((j : ℕ) → j < k → P j → ⊥) → least b n ≡ Some k
   with_least k l p none =
-      (least_found b n k).1 (
-        l,
-        (decides k l).1 p,
-        λ j h. elim (cases_Bool (b j)) [
+      (least_found b n k).1 (record {
+        inside = l;
+        passes = (decides k l).1 p;
+        least = λ j h. elim (cases_Bool (b j)) [
           | inl e ↦ absurd (none j h ((decides j (omega arith)).0 e))
           | inr e ↦ e
-        ],
-      )
+        ];
+      })
 
 -- the three causes in their order find nothing
 three_none : (a b c : Option ℕ) → option_or (option_map Short a) (option_or (option_map CutOff b) (option_map Missed c)) ≡ None →

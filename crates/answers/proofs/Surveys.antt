@@ -1,10 +1,11 @@
 -- A survey lists a finding exactly where there is one, in its group and by rising place.
-use Rattle.std.proofs.Common.{◌≡◌, ℕ, zero, suc, ◌+◌, ◌<◌, ◌≤◌, Bool, true, false, cond, ◌⊎◌, List, [], ◌∷◌, ◌++◌, map, length, pos, ◌-ℤ◌, Decides, sym, refl, ap, ◌∙◌, subst, ap₂, inl, inr, arith}
+use Rattle.std.proofs.Common.{◌≡◌, ℕ, zero, suc, ◌+◌, ◌<◌, ◌≤◌, Bool, true, false, cond, ◌⊎◌, List, [], ◌∷◌, ◌++◌, map, length, pos, ◌-ℤ◌, Some, None, Decides, sym, refl, ap, ◌∙◌, subst, ap₂, inl, inr, arith}
 use Rattle.std.proofs.lemmas.Bool.{cases_eq, both_ways}
 use Rattle.std.proofs.lemmas.Int.{ints}
+use Rattle.std.specs.Option.{option_to_list}
 use Rattle.theory.specs.Nets.{NetMeaning, NetLaw}
 use Rattle.theory.specs.Firing.{Marking}
-use Rattle.theory.specs.Rows.{at}
+use Rattle.theory.specs.Rows.{at, found_below}
 use Rattle.theory.specs.Tallies.{Tally, final_number, IsCutOff}
 use Rattle.theory.specs.Tallies as theory
 use Rattle.theory.specs.Tests.{is_short, is_cut_off}
@@ -12,8 +13,9 @@ use Rattle.theory.proofs.Decided.{short_decided, cut_off_decided}
 use Rattle.answers.specs.declared.Finding.{Finding}
 use Rattle.answers.specs.States.{Target, findings_needed}
 use Rattle.answers.specs.Answers.{is_missed}
-use Rattle.answers.specs.Findings.{short_finding, cut_off_finding, missed_finding, found, findings}
-use Rattle.answers.specs.Reasons.{Among, Rising, Exactly, AllFound, FinalMisses}
+use Rattle.answers.specs.Findings.{short_finding, cut_off_finding, missed_finding, finding_at, findings}
+use Rattle.answers.specs.Reasons.{Exactly, AllFound, FinalMisses}
+use Rattle.answers.proofs.Rising.{Among, Rising, among_contains, contains_among, rising_strictly}
 use Rattle.answers.proofs.Missed.{final_missed_decided}
 
 -- one more number at the end of a list, or none
@@ -29,11 +31,11 @@ map_both : (f : ℕ → Finding) (ps qs : List ℕ) → map f (ps ++ qs) ≡ map
 map_both f [] qs = refl
 map_both f (a ∷ rest) qs = ap (λ (l : List Finding). f a ∷ l) (map_both f rest qs)
 
-last_mapped : (c : Bool) (f : ℕ → Finding) (n : ℕ) → cond c (f n ∷ []) [] ≡ map f (and_last c n)
+last_mapped : (c : Bool) (f : ℕ → Finding) (n : ℕ) → option_to_list (cond c (Some (f n)) None) ≡ map f (and_last c n)
 last_mapped true f n = refl
 last_mapped false f n = refl
 
-found_is : (b : ℕ → Bool) (f : ℕ → Finding) (n : ℕ) → found b f n ≡ map f (passing b n)
+found_is : (b : ℕ → Bool) (f : ℕ → Finding) (n : ℕ) → found_below (finding_at b f) n ≡ map f (passing b n)
 found_is b f zero = refl
 found_is b f (suc n) =
     ap₂ ◌++◌ (found_is b f n) (last_mapped (b n) f n) ∙ sym (map_both f (passing b n) (and_last (b n) n))
@@ -108,10 +110,10 @@ passing_rising b (suc n) =
 
 exactly : (b : ℕ → Bool) (P : ℕ → Type 0) (n : ℕ) → ((k : ℕ) → k < n → Decides (b k) (P k)) → Exactly n P (passing b n)
 exactly b P n decides = record {
-  rising = passing_rising b n;
+  rising = rising_strictly (passing b n) (passing_rising b n);
   exact = λ p. (
-    λ a. let i = passing_below b n p a in (i.0, (decides p i.0).0 i.1),
-    λ h. below_passing b n p h.0 ((decides p h.0).1 h.1),
+    λ a. let i = passing_below b n p (contains_among p (passing b n) a) in (i.0, (decides p i.0).0 i.1),
+    λ h. among_contains p (passing b n) (below_passing b n p h.0 ((decides p h.0).1 h.1)),
   );
 }
 
@@ -121,14 +123,14 @@ length_both : (ps qs : List Finding) → length (ps ++ qs) ≡ length ps + lengt
 length_both [] qs = omega arith
 length_both (a ∷ rest) qs = omega (arith, length_both rest qs)
 
-last_short : (c : Bool) (x : Finding) → length (cond c (x ∷ []) []) ≤ 1
+last_short : (c : Bool) (x : Finding) → length (option_to_list (cond c (Some x) None)) ≤ 1
 last_short true x = omega arith
 last_short false x = omega arith
 
-found_short : (b : ℕ → Bool) (f : ℕ → Finding) (n : ℕ) → length (found b f n) ≤ n
+found_short : (b : ℕ → Bool) (f : ℕ → Finding) (n : ℕ) → length (found_below (finding_at b f) n) ≤ n
 found_short b f zero = omega arith
 found_short b f (suc n) =
-    omega (arith, length_both (found b f n) (cond (b n) (f n ∷ []) []), found_short b f n, last_short (b n) (f n))
+    omega (arith, length_both (found_below (finding_at b f) n) (option_to_list (finding_at b f n)), found_short b f n, last_short (b n) (f n))
 
 module _ (N : NetMeaning) (law : NetLaw N) (m : Marking) (x : Tally) (target : Target) where
   pub finds_all : target.kind < 2 → AllFound N m x target (findings N m x target)
@@ -149,9 +151,9 @@ module _ (N : NetMeaning) (law : NetLaw N) (m : Marking) (x : Tally) (target : T
 
   pub few_findings : length (findings N m x target) ≤ findings_needed
   few_findings =
-      let shorts : List Finding = found (is_short N m x) (short_finding N m x) N.places in
-      let cut_offs : List Finding = found (is_cut_off N m x) cut_off_finding N.places in
-      let misses : List Finding = found (is_missed N m x target) (missed_finding N m x target) N.places in
+      let shorts : List Finding = found_below (finding_at (is_short N m x) (short_finding N m x)) N.places in
+      let cut_offs : List Finding = found_below (finding_at (is_cut_off N m x) cut_off_finding) N.places in
+      let misses : List Finding = found_below (finding_at (is_missed N m x target) (missed_finding N m x target)) N.places in
       omega (
         arith,
         length_both shorts (cut_offs ++ misses),

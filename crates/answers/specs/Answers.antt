@@ -1,5 +1,5 @@
 -- What fire and resume answer: the refusal, or the order and what the sitting holds afterwards.
-use Rattle.std.specs.Prelude.{ℕ, ◌+◌, ◌-◌, Bool, cond, not, ◌&&◌, List, [], ◌∷◌, ◌++◌, length, drop, Some, None, Option, Result, ◌==◌, nat_le, nat_lt}
+use Rattle.std.specs.Prelude.{ℕ, ◌+◌, ◌-◌, Bool, if◌then◌else◌, not, ◌&&◌, List, [], ◌∷◌, ◌++◌, length, drop, Some, None, Option, Result, ◌==◌, nat_le, nat_lt}
 use Rattle.std.specs.Option.{option_or, option_map}
 use Rattle.refusals.specs.Answered.{answered}
 use Rattle.refusals.specs.declared.Refusal.{Refusal}
@@ -14,7 +14,7 @@ use Rattle.answers.specs.States.{State, Target, done_total, done_limit, yields_o
 -- the refusal of the first check that finds something wrong, if one does
 abbrev pub first_wrong : List (Bool × Refusal) → Option Refusal
 first_wrong [] = None
-first_wrong (check ∷ checks) = cond check.0 (Some check.1) (first_wrong checks)
+first_wrong (check ∷ checks) = if check.0 then Some check.1 else first_wrong checks
 
 -- what is there after a call: what was there if it is refused
 abbrev pub unless : {A : Type 0} → Option Refusal → A → A → A
@@ -76,9 +76,9 @@ size_refusal N s tally target memory = first_wrong (size_checks N s tally target
 -- one of the other kind; both sides are raised by what is spent, as numbers here are never negative
 abbrev pub is_missed : NetMeaning → Marking → Tally → Target → ℕ → Bool
 is_missed N m x target p =
-    cond (target.kind == 0)
-    (not (m p + gained N x p == at target.numbers p + spent N x p))
-    (nat_lt (m p + gained N x p) (at target.numbers p + spent N x p))
+    if target.kind == 0
+    then not (m p + gained N x p == at target.numbers p + spent N x p)
+    else nat_lt (m p + gained N x p) (at target.numbers p + spent N x p)
 
 -- the place that a resume names: short goes before cut off, that before missed, and of several places the least
 abbrev pub cause_refusal : NetMeaning → Marking → Tally → Target → Option Refusal

@@ -1,9 +1,9 @@
 -- What a survey lists, and each finding's number.
-use Rattle.std.specs.Prelude.{ℕ, zero, suc, ◌+◌, Bool, cond, not, List, [], ◌∷◌, ◌++◌, length, ℤ, pos, ◌-ℤ◌, Option, Result, nat_lt}
+use Rattle.std.specs.Prelude.{ℕ, ◌+◌, Bool, if◌then◌else◌, not, List, [], ◌∷◌, ◌++◌, length, ℤ, pos, ◌-ℤ◌, Some, None, Option, Result, nat_lt}
 use Rattle.refusals.specs.declared.Refusal.{Refusal}
 use Rattle.refusals.specs.declared.Refusal.TheVariants.{RowsUnfit, DoneLimit, ListFull}
 use Rattle.theory.specs.Nets.{NetMeaning}
-use Rattle.theory.specs.Rows.{at}
+use Rattle.theory.specs.Rows.{at, found_below}
 use Rattle.theory.specs.Firing.{Marking}
 use Rattle.theory.specs.Tallies.{Tally, steps_asked, final_number}
 use Rattle.theory.specs.Tests.{is_short, is_cut_off}
@@ -33,17 +33,16 @@ abbrev pub missed_finding : NetMeaning → Marking → Tally → Target → ℕ 
 missed_finding N m x target p =
     record { place = p; cause = cause.Missed (final_number N m x p -ℤ pos (at target.numbers p)) }
 
--- the places below n that pass the test, lowest first, each made a finding
-abbrev pub found : (ℕ → Bool) → (ℕ → Finding) → ℕ → List Finding
-found b f zero = []
-found b f (suc n) = found b f n ++ cond (b n) (f n ∷ []) []
+-- the finding at a place that passes the test, else none
+abbrev pub finding_at : (ℕ → Bool) → (ℕ → Finding) → ℕ → Option Finding
+finding_at passes finding p = if passes p then Some (finding p) else None
 
 -- the list of a survey, one cause after the other; a place may have several and is then listed with each
 abbrev pub findings : NetMeaning → Marking → Tally → Target → List Finding
 findings N m x target =
-    found (is_short N m x) (short_finding N m x) N.places
-    ++ (found (is_cut_off N m x) cut_off_finding N.places
-    ++ found (is_missed N m x target) (missed_finding N m x target) N.places)
+    found_below (finding_at (is_short N m x) (short_finding N m x)) N.places
+    ++ (found_below (finding_at (is_cut_off N m x) cut_off_finding) N.places
+    ++ found_below (finding_at (is_missed N m x target) (missed_finding N m x target)) N.places)
 
 -- what a survey looks at, first to last, for memory of so many findings
 abbrev pub survey_checks : NetMeaning → State → List ℕ → Target → ℕ → List (Bool × Refusal)

@@ -30,19 +30,6 @@ pub record Leads (N : NetMeaning) (order : List ℕ) (before next : State) : Typ
   pub spare : next.spare + order_yields N order ≡ before.spare + length order
   pub done : (t : ℕ) → next.done t ≡ before.done t + times order t
 
--- the call answers with its refusal if it is refused, else with this
-pub record Says {A : Type 0} (refusal : Option Refusal) (answer : A) (result : Result A Refusal) : Type 0 where
-  pub accepted : refusal ≡ None → result ≡ Ok answer
-  pub refused : (e : Refusal) → refusal ≡ Some e → result ≡ Err e
-
--- lent memory has these at its front after an accepted call and behind them what it had, and all that it had after a
--- refused one
-pub record Writes {A : Type 0} (refusal : Option Refusal) (items before next : List A) : Type 0 where
-  pub as_long : length next ≡ length before
-  pub front : refusal ≡ None → take (length items) next ≡ items
-  pub rest : refusal ≡ None → drop (length items) next ≡ drop (length items) before
-  pub refused : (e : Refusal) → refusal ≡ Some e → next ≡ before
-
 -- every one of the calls is accepted, in turn
 abbrev pub AllAccepted : NetMeaning → State → List Call → Type 0
 AllAccepted N s [] = Unit {0}
@@ -53,22 +40,13 @@ pub record AsFires (N : NetMeaning) (s : State) (tally : List ℕ) (target : Tar
   pub none_refused : AllAccepted N s (fires (the_order N s tally))
   pub same_state : SameState (after_calls N s (fires (the_order N s tally))) (after_call N s (resume tally target memory))
 
--- WHAT A NEW SITTING HOLDS
-
--- a new sitting on a board with these counts and this spare: it holds these, and it has done no step
-pub record NewOn (counts : Marking) (spare : ℕ) (s : State) : Type 0 where
-  pub same_counts : (p : ℕ) → s.counts p ≡ counts p
-  pub same_spare : s.spare ≡ spare
-  pub nothing_done : (t : ℕ) → s.done t ≡ 0
-
 -- WHAT HOLDS IN ANY STATE
 
--- whatever a sitting holds
+-- whatever a sitting holds: when each call is accepted, why it is refused, and what it finds
 pub record InAnyState (N : NetMeaning) (s : State) : Type 0 where
   -- a fire is accepted where nothing of four things hinders it, and else refused for the first of them that does
   pub fires_exactly : (t : ℕ) → (fire_refusal N s t ≡ None) ↔ FireFits N s t
   pub fire_refused_for : (t : ℕ) (e : Refusal) → (fire_refusal N s t ≡ Some e) ↔ WhyFire N s t e
-  pub fire_says : (t : ℕ) → Says (fire_refusal N s t) tt (fire_answer N s t)
   -- where the sizes are right, a tally is accepted just if there is an order of it that ends as the target wants
   pub accepts_exactly : (tally : List ℕ) (target : Target) (memory : ℕ) → size_refusal N s tally target memory ≡ None →
       (resume_refusal N s tally target memory ≡ None) ↔ ((order : List ℕ) × Such N s tally target order)
@@ -83,13 +61,9 @@ pub record InAnyState (N : NetMeaning) (s : State) : Type 0 where
       Such N s tally target (the_order N s tally)
       × ((other : List ℕ) → Such N s tally target other →
       (the_order N s tally ≡ other) ⊎ Earlier (the_order N s tally) other)
-  -- how long the order is, that the caller is told so, what becomes of its memory, and that fires would do the same
+  -- how long the order is, and that fires of its steps would do the same
   pub order_long : (tally : List ℕ) (target : Target) (memory : ℕ) → resume_refusal N s tally target memory ≡ None →
       length (the_order N s tally) ≡ steps_asked N (at tally)
-  pub resume_says : (tally : List ℕ) (target : Target) (memory : ℕ) →
-      Says (resume_refusal N s tally target memory) (length (the_order N s tally)) (resume_answer N s tally target memory)
-  pub resume_writes : (tally : List ℕ) (target : Target) (memory : List ℕ) →
-      Writes (resume_refusal N s tally target (length memory)) (the_order N s tally) memory (order_memory N s tally target memory)
   pub resumes_as_fires : (tally : List ℕ) (target : Target) (memory : ℕ) → resume_refusal N s tally target memory ≡ None →
       AsFires N s tally target memory
   -- a survey is accepted where its sizes are right, and then leaves nothing out and makes nothing up
@@ -99,26 +73,6 @@ pub record InAnyState (N : NetMeaning) (s : State) : Type 0 where
       (survey_refusal N s tally target memory ≡ Some e) ↔ WhySurvey N s tally target memory e
   pub finds_all : (tally : List ℕ) (target : Target) (memory : ℕ) → survey_refusal N s tally target memory ≡ None →
       AllFound N s.counts (at tally) target (findings N s.counts (at tally) target)
-  -- what the caller of a survey is told, and what becomes of its memory
-  pub survey_says : (tally : List ℕ) (target : Target) (memory : ℕ) →
-      Says (survey_refusal N s tally target memory) (length (findings N s.counts (at tally) target)) (survey_answer N s tally target memory)
-  pub survey_writes : (tally : List ℕ) (target : Target) (memory : List Finding) →
-      Writes (survey_refusal N s tally target (length memory)) (findings N s.counts (at tally) target) memory
-      (findings_memory N s tally target memory)
-  -- whatever call comes next leaves what the steps that it fired give: its step, its order, or none
-  pub leaves_what_it_fired : (c : Call) → Leads N (fired_by N s c) s (after_call N s c)
-  pub fire_fires : (t : ℕ) → fire_refusal N s t ≡ None → fired_by N s (fire t) ≡ t ∷ []
-  pub resume_fires : (tally : List ℕ) (target : Target) (memory : ℕ) → resume_refusal N s tally target memory ≡ None →
-      fired_by N s (resume tally target memory) ≡ the_order N s tally
-  pub survey_fires_none : (tally : List ℕ) (target : Target) (memory : ℕ) → fired_by N s (survey tally target memory) ≡ []
-  pub refused_fires_none : (c : Call) (e : Refusal) → refusal_of N s c ≡ Some e → fired_by N s c ≡ []
-  -- what the transcript has of it
-  pub fire_told : (t : ℕ) → fire_refusal N s t ≡ None → answer_to N s (fire t) ≡ fired_once
-  pub resume_told : (tally : List ℕ) (target : Target) (memory : ℕ) → resume_refusal N s tally target memory ≡ None →
-      answer_to N s (resume tally target memory) ≡ order_written (the_order N s tally)
-  pub survey_told : (tally : List ℕ) (target : Target) (memory : ℕ) → survey_refusal N s tally target memory ≡ None →
-      answer_to N s (survey tally target memory) ≡ findings_listed (findings N s.counts (at tally) target)
-  pub refusal_told : (c : Call) (e : Refusal) → refusal_of N s c ≡ Some e → answer_to N s c ≡ refused e
 
 -- WHAT HOLDS AFTER EVERY LIST OF CALLS
 
@@ -171,8 +125,64 @@ pub record AfterCalls (N : NetMeaning) (start : State) (calls : List Call) : Typ
       HandOver N start (after_calls N start calls) other tally numbers memory →
       ReplayedOn N start (after_calls N start calls) other tally numbers memory
 
--- for every board a new sitting; for every lawful net, every sitting, and every list of calls on a new one
+-- WHAT A CALL TELLS AND LEAVES
+
+-- the call answers with its refusal if it is refused, else with this
+pub record Says {A : Type 0} (refusal : Option Refusal) (answer : A) (result : Result A Refusal) : Type 0 where
+  pub accepted : refusal ≡ None → result ≡ Ok answer
+  pub refused : (e : Refusal) → refusal ≡ Some e → result ≡ Err e
+
+-- lent memory has these at its front after an accepted call and behind them what it had, and all that it had after a
+-- refused one
+pub record Writes {A : Type 0} (refusal : Option Refusal) (items before next : List A) : Type 0 where
+  pub as_long : length next ≡ length before
+  pub front : refusal ≡ None → take (length items) next ≡ items
+  pub rest : refusal ≡ None → drop (length items) next ≡ drop (length items) before
+  pub refused : (e : Refusal) → refusal ≡ Some e → next ≡ before
+
+-- what a call tells its caller, writes into the lent memory, fires and leaves, given its refusal, order and findings
+pub record ToldAndLeft (N : NetMeaning) (s : State) : Type 0 where
+  -- the answer of each call: its refusal, or else nothing, the length of its order, or of its list of findings
+  pub fire_says : (t : ℕ) → Says (fire_refusal N s t) tt (fire_answer N s t)
+  pub resume_says : (tally : List ℕ) (target : Target) (memory : ℕ) →
+      Says (resume_refusal N s tally target memory) (length (the_order N s tally)) (resume_answer N s tally target memory)
+  pub survey_says : (tally : List ℕ) (target : Target) (memory : ℕ) →
+      Says (survey_refusal N s tally target memory) (length (findings N s.counts (at tally) target)) (survey_answer N s tally target memory)
+  -- the memory that was lent to it
+  pub resume_writes : (tally : List ℕ) (target : Target) (memory : List ℕ) →
+      Writes (resume_refusal N s tally target (length memory)) (the_order N s tally) memory (order_memory N s tally target memory)
+  pub survey_writes : (tally : List ℕ) (target : Target) (memory : List Finding) →
+      Writes (survey_refusal N s tally target (length memory)) (findings N s.counts (at tally) target) memory
+      (findings_memory N s tally target memory)
+  -- it leaves what the steps that it fired give: its step, its order, or none
+  pub leaves_what_it_fired : (c : Call) → Leads N (fired_by N s c) s (after_call N s c)
+  pub fire_fires : (t : ℕ) → fire_refusal N s t ≡ None → fired_by N s (fire t) ≡ t ∷ []
+  pub resume_fires : (tally : List ℕ) (target : Target) (memory : ℕ) → resume_refusal N s tally target memory ≡ None →
+      fired_by N s (resume tally target memory) ≡ the_order N s tally
+  pub survey_fires_none : (tally : List ℕ) (target : Target) (memory : ℕ) → fired_by N s (survey tally target memory) ≡ []
+  pub refused_fires_none : (c : Call) (e : Refusal) → refusal_of N s c ≡ Some e → fired_by N s c ≡ []
+  -- what the transcript has of it
+  pub fire_told : (t : ℕ) → fire_refusal N s t ≡ None → answer_to N s (fire t) ≡ fired_once
+  pub resume_told : (tally : List ℕ) (target : Target) (memory : ℕ) → resume_refusal N s tally target memory ≡ None →
+      answer_to N s (resume tally target memory) ≡ order_written (the_order N s tally)
+  pub survey_told : (tally : List ℕ) (target : Target) (memory : ℕ) → survey_refusal N s tally target memory ≡ None →
+      answer_to N s (survey tally target memory) ≡ findings_listed (findings N s.counts (at tally) target)
+  pub refusal_told : (c : Call) (e : Refusal) → refusal_of N s c ≡ Some e → answer_to N s c ≡ refused e
+
+-- WHAT A NEW SITTING HOLDS
+
+-- a new sitting on a board with these counts and this spare: it holds these, and it has done no step
+pub record NewOn (counts : Marking) (spare : ℕ) (s : State) : Type 0 where
+  pub same_counts : (p : ℕ) → s.counts p ≡ counts p
+  pub same_spare : s.spare ≡ spare
+  pub nothing_done : (t : ℕ) → s.done t ≡ 0
+
+-- THE PROMISE
+
+-- for every lawful net: what holds in every sitting, and after every list of calls on a new one; then, for every
+-- sitting, what a call tells and leaves, and for every board what a new sitting holds
 pub record Promise : Type 0 where
-  pub new_sittings : (counts : Marking) (spare : ℕ) → NewOn counts spare (new_on counts spare)
   pub in_any_state : (N : NetMeaning) → NetLaw N → (s : State) → InAnyState N s
   pub after_any_calls : (N : NetMeaning) → NetLaw N → (start : State) → New start → (calls : List Call) → AfterCalls N start calls
+  pub told_and_left : (N : NetMeaning) → NetLaw N → (s : State) → ToldAndLeft N s
+  pub new_sittings : (counts : Marking) (spare : ℕ) → NewOn counts spare (new_on counts spare)

@@ -1,5 +1,6 @@
 -- When each call is accepted, and why it is refused, as conditions on the net, the marking and the sizes.
-use Rattle.std.specs.Prelude.{◌≡◌, ℕ, ◌+◌, ◌<◌, ◌≤◌, ◌⊎◌, ◌↔◌, List, [], ◌∷◌, ◌++◌, map, length, ℤ, pos, ◌+ℤ◌, ◌<ℤ◌, ◌≢◌}
+use Rattle.std.specs.Prelude.{◌≡◌, ℕ, ◌+◌, ◌<◌, ◌≤◌, ◌⊎◌, ◌↔◌, List, [], ◌∷◌, ◌++◌, map, length, Contains, ℤ, pos, ◌+ℤ◌, ◌<ℤ◌, ◌≢◌}
+use Rattle.std.specs.List.Sorted.{IsStrictlyIncreasing}
 use Rattle.refusals.specs.declared.Refusal.{Refusal}
 use Rattle.refusals.specs.declared.Refusal.TheVariants.{RowsUnfit, DoneLimit, OrderMemoryShort, SpareShort, Short, CutOff, Missed, NoSuchStep, InputEmpty, ListFull}
 use Rattle.theory.specs.Nets.{NetMeaning}
@@ -120,20 +121,10 @@ FinalMisses N m x target p =
     ((target.kind ≡ 0) × (final_number N m x p ≢ pos (at target.numbers p)))
     ⊎ ((target.kind ≡ 1) × (final_number N m x p <ℤ pos (at target.numbers p)))
 
--- p is one of the numbers
-abbrev pub Among : ℕ → List ℕ → Type 0
-Among p [] = ⊥
-Among p (q ∷ qs) = (p ≡ q) ⊎ Among p qs
-
--- each number is smaller than those that follow it
-abbrev pub Rising : List ℕ → Type 0
-Rising [] = Unit {0}
-Rising (p ∷ ps) = ((q : ℕ) → Among q ps → p < q) × Rising ps
-
 -- the numbers are exactly those below n with the property, by rising number
 pub record Exactly (n : ℕ) (P : ℕ → Type 0) (ps : List ℕ) : Type 0 where
-  pub rising : Rising ps
-  pub exact : (p : ℕ) → Among p ps ↔ ((p < n) × P p)
+  pub rising : IsStrictlyIncreasing ps
+  pub exact : (p : ℕ) → Contains ps p ↔ ((p < n) × P p)
 
 -- a finding at each of the places, with what is wrong there
 abbrev pub findings_at : (ℕ → Cause) → List ℕ → List Finding

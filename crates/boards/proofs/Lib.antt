@@ -1,3 +1,4 @@
 pub mod RowSums
 pub mod AtPlace
 pub mod Moves
+pub mod Permuted

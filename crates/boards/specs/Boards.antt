@@ -1,6 +1,7 @@
 -- The law of every board, and what take, put and move_all answer and leave.
-use Rattle.std.specs.Prelude.{◌≡◌, ℕ, ◌+◌, ◌-◌, ◌<◌, ◌≤◌, cond, Bool, true, false, ◌⊎◌, Ok, Err, Result, ◌==◌}
+use Rattle.std.specs.Prelude.{◌≡◌, ℕ, ◌+◌, ◌-◌, ◌<◌, ◌≤◌, Bool, true, false, ◌⊎◌, Ok, Err, Result}
 use Rattle.theory.specs.Sums.{sum_to}
+use Rattle.theory.specs.Firing.{only_at}
 use Rattle.refusals.specs.declared.Refusal.{Refusal}
 use Rattle.refusals.specs.declared.Refusal.TheVariants.{NoSuchPlace, PlaceEmpty, PutAboveSpare}
 
@@ -11,10 +12,6 @@ board_limit = 2147483647
 -- the law of every board: what lies on it and what still fits is no more than the largest board has room for
 abbrev pub BoardLaw : (ℕ → ℕ) → ℕ → Type 0
 BoardLaw counts spare = sum_to counts 64 + spare ≤ board_limit
-
--- n at the place itself, 0 at every other
-abbrev pub only_at : ℕ → ℕ → ℕ → ℕ
-only_at place p n = cond (place == p) n 0
 
 -- every count and spare are as they were
 pub record Unchanged (counts : ℕ → ℕ) (spare : ℕ) (counts' : ℕ → ℕ) (spare' : ℕ) : Type 0 where

@@ -1,23 +1,20 @@
 -- What the count board's load answers and leaves, and rows whose numbers have moved.
-use Rattle.std.specs.Prelude.{◌≡◌, ℕ, ◌+◌, List, length, Ok, Err, Result, slice_index}
+use Rattle.std.specs.Prelude.{◌≡◌, ℕ, ◌+◌, List, length, Ok, Err, Result}
 use Rattle.refusals.specs.declared.Refusal.{Refusal}
 use Rattle.refusals.specs.declared.Refusal.TheVariants.{BoardRowUnfit}
+use Rattle.theory.specs.Rows.{at}
 use Rattle.boards.specs.Boards.{BoardLaw, Unchanged}
-
--- the number that a row has for a place, 0 past its end
-abbrev pub at_place : List ℕ → ℕ → ℕ
-at_place row p = slice_index row p
 
 -- the row has 64 counts and keeps the law with the spare: the board now holds both
 pub record Loaded (row : List ℕ) (spare : ℕ) (counts' : ℕ → ℕ) (spare' : ℕ) : Type 0 where
   pub long : length row ≡ 64
-  pub lawful : BoardLaw (at_place row) spare
-  pub counts_given : (p : ℕ) → counts' p ≡ at_place row p
+  pub lawful : BoardLaw (at row) spare
+  pub counts_given : (p : ℕ) → counts' p ≡ at row p
   pub spare_given : spare' ≡ spare
 
 -- the row has another length, or breaks the law with the spare
 pub record LoadRefused (row : List ℕ) (spare : ℕ) (e : Refusal) : Type 0 where
-  pub why : length row ≡ 64 → BoardLaw (at_place row) spare → ⊥
+  pub why : length row ≡ 64 → BoardLaw (at row) spare → ⊥
   pub named : e ≡ BoardRowUnfit
 
 -- what load answers, from the counts and spare before it to those after it
@@ -29,4 +26,4 @@ LoadSays row given counts spare (Err e) counts' spare' =
 -- a row of 64 with the counts less what is taken and with what is put at each place
 pub record RowMoved (counts taken put row : List ℕ) : Type 0 where
   pub long : length row ≡ 64
-  pub moved : (p : ℕ) → at_place row p + at_place taken p ≡ at_place counts p + at_place put p
+  pub moved : (p : ℕ) → at row p + at taken p ≡ at counts p + at put p

@@ -2,7 +2,8 @@
 ghost use Rattle.std.specs.Prelude.{◌≡◌, ◌*◌, ◌≤◌, length, replicate, IfSome, MatchBool};
 ghost use Rattle.theory.specs.Sums.{sum_to};
 ghost use Rattle.boards.specs.Boards.{BoardLaw};
-ghost use Rattle.boards.specs.Rows.{at_place, LoadSays, RowMoved};
+ghost use Rattle.theory.specs.Rows.{at};
+ghost use Rattle.boards.specs.Rows.{LoadSays, RowMoved};
 ghost use Rattle.std.proofs.Common.{arith, rules};
 ghost use Rattle.std.proofs.lemmas.List.{get_or_past};
 
@@ -17,7 +18,7 @@ pub struct CountBoard {
     spare: u32,
     // the law `outside` is over a value, and a value's array is a list of any length but for this
     ghost long: { length counts ≡ 64 },
-    ghost lawful: { BoardLaw (at_place counts) spare },
+    ghost lawful: { BoardLaw (at counts) spare },
 }
 
 impl CountBoard {
@@ -37,8 +38,8 @@ impl CountBoard {
     /// Sets all counts, in blocks from place 0 on, and spare. Refused: `BoardRowUnfit`, with the board as it was,
     /// where the row has fewer or more than 64 numbers, or they and spare are more than `BOARD_LIMIT` together.
     pub fn load(&mut self, row: &[u32], spare: u32) -> Result<(), Refusal>
-        ensures answer { LoadSays row.now spare (at_place (count_row self.old)) (spare_of self.old) result
-            (at_place (count_row self.new)) (spare_of self.new) }
+        ensures answer { LoadSays row.now spare (at (count_row self.old)) (spare_of self.old) result
+            (at (count_row self.new)) (spare_of self.new) }
     {
         let counts = <&[u32; PLACES]>::try_from(row).map_err(|_| Refusal::BoardRowUnfit)?;
         if !lawful(counts, spare) {
@@ -52,7 +53,7 @@ impl CountBoard {
 
 // the sum of the counts
 fn total(counts: &[u32; PLACES]) -> u64
-    ensures value { result ≡ sum_to (at_place counts.now) 64 }
+    ensures value { result ≡ sum_to (at counts.now) 64 }
     ensures bound { result ≤ 64 * 4294967295 }
 {
     counts.iter().map(|count| u64::from(*count)).sum()
@@ -60,7 +61,7 @@ fn total(counts: &[u32; PLACES]) -> u64
 
 // whether the counts and the spare keep the law of boards
 fn lawful(counts: &[u32; PLACES], spare: u32) -> bool
-    ensures { MatchBool result (BoardLaw (at_place counts.now) spare) (BoardLaw (at_place counts.now) spare → ⊥) }
+    ensures { MatchBool result (BoardLaw (at counts.now) spare) (BoardLaw (at counts.now) spare → ⊥) }
 {
     total(counts) + u64::from(spare) <= u64::from(BOARD_LIMIT)
 }
@@ -81,7 +82,7 @@ fn moved(
 }
 
 impl Board for CountBoard {
-    ghost counts = { λ b. at_place b.counts };
+    ghost counts = { λ b. at b.counts };
 
     ghost spare = { λ b. b.spare };
 

@@ -2,7 +2,8 @@
 use Rattle.std.proofs.Common.{◌≡◌, ℕ, zero, suc, ◌+◌, ◌≤◌, List, ◌++◌, length, take, drop, Some, None, Option, sym, ap, ◌∙◌, subst, append_assoc, add-one, arith, length-append, length-take}
 use Rattle.std.specs.Option.{option_to_list}
 use Rattle.std.proofs.lemmas.List.{take-append-drop}
-use Rattle.bounded_list.specs.Lists.{found_below, Extended}
+use Rattle.theory.specs.Rows.{found_below}
+use Rattle.bounded_list.specs.Lists.{Extended}
 use Rattle.bounded_list.specs.declared.BoundedList.{BoundedList}
 use Rattle.bounded_list.proofs.Written.{Written}
 

@@ -1,9 +1,9 @@
 -- What the calls of a bounded list say, over the memory that it was lent and its length.
-use Rattle.std.specs.Prelude.{◌≡◌, ℕ, zero, suc, ◌+◌, ◌<◌, ◌≤◌, List, [], ◌++◌, length, take, drop, Some, None, Ok, Err, Option, Result, slice_index_or, slice_set}
+use Rattle.std.specs.Prelude.{◌≡◌, ℕ, ◌+◌, ◌<◌, ◌≤◌, List, ◌++◌, length, take, drop, Some, None, Ok, Err, Option, Result, slice_index_or, slice_set}
 use Rattle.std.specs.Borrow.{Bor}
-use Rattle.std.specs.Option.{option_to_list}
 use Rattle.refusals.specs.declared.Refusal.{Refusal}
 use Rattle.refusals.specs.declared.Refusal.TheVariants.{ListFull}
+use Rattle.theory.specs.Rows.{found_below}
 
 -- the element is written behind the last one, and nothing else is
 pub record Added {T : Type 0} (x : T) (before : List T) (n : ℕ) (after : List T) (n' : ℕ) : Type 0 where
@@ -27,11 +27,6 @@ Adds x before n (Err e) after n' = Full before n e after n'
 abbrev pub Gets : {T : Type 0} → List T → ℕ → ℕ → Option (Bor T) → Type 0
 Gets memory n i (Some x) = (i < n) × (x.now ≡ slice_index_or memory i x.now)
 Gets memory n i None = n ≤ i
-
--- all that is found at the numbers below n, by rising number
-abbrev pub found_below : {T : Type 0} → (ℕ → Option T) → ℕ → List T
-found_below at zero = []
-found_below at (suc n) = found_below at n ++ option_to_list (at n)
 
 -- a list with these items behind its last one, and the memory behind them as it was
 pub record Extended {T : Type 0} (items before : List T) (n : ℕ) (after : List T) (n' : ℕ) : Type 0 where

@@ -4,22 +4,18 @@ use Rattle.std.proofs.lemmas.List.{take_all, take-append-le, drop_all, drop-appe
 use Rattle.std.specs.Option.{option_to_list}
 use Rattle.refusals.specs.declared.Refusal.{Refusal}
 use Rattle.answers.specs.declared.Finding.{Finding}
-use Rattle.answers.specs.Findings.{found}
-use Rattle.bounded_list.specs.Lists.{found_below, Extended, AddsFound}
+use Rattle.answers.specs.Findings.{finding_at}
+use Rattle.theory.specs.Rows.{found_below}
+use Rattle.bounded_list.specs.Lists.{Extended, AddsFound}
 use Rattle.bounded_list.proofs.Written.{Written, written_length}
 use Rattle.bounded_list.proofs.Founds.{found_few}
-use Rattle.findings.specs.Found.{finding_at}
 
 -- a group of findings is what is found by a test that agrees with its own
-pub found_by : (b b' : ℕ → Bool) (f : ℕ → Finding) (n : ℕ) → ((p : ℕ) → p < n → b' p ≡ b p) → found_below (finding_at b' f) n ≡ found b f n
+pub found_by : (b b' : ℕ → Bool) (f : ℕ → Finding) (n : ℕ) → ((p : ℕ) → p < n → b' p ≡ b p) → found_below (finding_at b' f) n ≡ found_below (finding_at b f) n
 found_by b b' f zero same = refl
 found_by b b' f (suc n) same =
     ap (λ z. z ++ option_to_list (finding_at b' f n)) (found_by b b' f n (λ p h. same p (omega arith)))
-    ∙ ap (λ z. found b f n ++ z) (ap (λ v. option_to_list (cond v (Some (f n)) None)) (same n (omega arith)) ∙ one (b n))
-  where
-    one : (v : Bool) → option_to_list (cond v (Some (f n)) None) ≡ cond v (f n ∷ []) []
-    one true = refl
-    one false = refl
+    ∙ ap (λ v. found_below (finding_at b f) n ++ option_to_list (cond v (Some (f n)) None)) (same n (omega arith))
 
 -- where there is room for one item of each number, all that is found is added
 pub must_extend : {X T : Type 0} (at : ℕ → Option T) (end : ℕ) (before : List T) (n : ℕ) (r : Result X Refusal) (after : List T) (n' : ℕ) →

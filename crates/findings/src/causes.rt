@@ -1,9 +1,8 @@
 //! What stands in the way at a place: that it is short, cut off or missed.
 ghost use Rattle.answers.specs.Answers.{is_missed};
-ghost use Rattle.answers.specs.Findings.{short_finding, cut_off_finding, missed_finding};
+ghost use Rattle.answers.specs.Findings.{short_finding, cut_off_finding, missed_finding, finding_at};
 ghost use Rattle.answers.specs.Kinds.{target_with};
 ghost use Rattle.sets.specs.Flags.{has};
-ghost use Rattle.findings.specs.Found.{finding_at};
 ghost use Rattle.theory.specs.Rows.{at};
 ghost use Rattle.theory.specs.Tests.{is_short};
 ghost use Rattle.std.specs.Prelude.{◌≡◌};

@@ -3,7 +3,8 @@ use Rattle.std.proofs.Common.{◌≡◌, ℕ, ◌+◌, ◌<◌, ◌≤◌, Bool,
 use Rattle.std.proofs.lemmas.Bool.{cases_eq, eq-eqb, ne_eqb, ltb-false, or_right, cond-true, cond-false, cond_both}
 use Rattle.std.proofs.Math.Bool.{or-false}
 use Rattle.refusals.specs.declared.Refusal.{Refusal}
-use Rattle.boards.specs.Boards.{only_at, PutSays, Put, TakeSays, Taken}
+use Rattle.theory.specs.Firing.{only_at}
+use Rattle.boards.specs.Boards.{PutSays, Put, TakeSays, Taken}
 use Rattle.theory.specs.Sums.{sum_to}
 use Rattle.theory.proofs.SumLaws.{sum_to_none, sum_to_same, sum_to_change, sum_to_mono}
 

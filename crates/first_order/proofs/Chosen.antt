@@ -8,7 +8,8 @@ use Rattle.theory.specs.Tallies.{Tally, NoPlaceCutOff}
 use Rattle.theory.specs.Tests.{least, is_safe}
 use Rattle.theory.proofs.TallySums.{one_same, one_other}
 use Rattle.theory.specs.Orders.{less}
-use Rattle.sets.specs.Flags.{has, IsEmpty, IsFirst}
+use Rattle.theory.specs.Laws.{IsLeast}
+use Rattle.sets.specs.Flags.{has, IsEmpty}
 use Rattle.first_order.specs.declared.schedule.Schedule.{Schedule}
 use Rattle.reached.specs.Led.{Led, has_at}
 use Rattle.theory.proofs.Decided.{least_found, none_found}
@@ -115,7 +116,7 @@ module _ (N : NetMeaning) (law : NetLaw N) (m : Marking) (x : Tally) (s : Schedu
 
   pub least_safe : (t : ℕ) → t < N.steps → is_safe N m x t ≡ true → ((k : ℕ) → k < t → rest k ≡ false) →
       Some t ≡ least (is_safe N m x) N.steps
-  least_safe t l e below = sym ((least_found (is_safe N m x) N.steps t).1 (l, e, λ k j. not_safe k (omega arith) (below k j)))
+  least_safe t l e below = sym ((least_found (is_safe N m x) N.steps t).1 (record { inside = l; passes = e; least = λ k j. not_safe k (omega arith) (below k j) }))
 
 -- a step that is ready is the net's
 pub a_step : (N : NetMeaning) (m : Marking) (x : Tally) (s : Schedule) → Shows N m x s → (t : ℕ) → has s.ready t ≡ true → t < N.steps
@@ -158,24 +159,24 @@ told_before s s' k t u e b told = record {
 }
 
 -- the first of a set that has a step
-first_of : (w t : ℕ) → t < 128 → has w t ≡ true → (k : ℕ) × IsFirst 128 w k
+first_of : (w t : ℕ) → t < 128 → has w t ≡ true → (k : ℕ) × IsLeast (has w) 128 k
 first_of w t l h = from (least (has w) 128) refl
   where
-    from : (o : Option ℕ) → least (has w) 128 ≡ o → (k : ℕ) × IsFirst 128 w k
+    from : (o : Option ℕ) → least (has w) 128 ≡ o → (k : ℕ) × IsLeast (has w) 128 k
     from None e = absurd (both_ways (has w t) ((none_found (has w) 128).0 e t l) h)
-    from (Some k) e = let f = (least_found (has w) 128 k).0 e in (k, record { inside = f.0; in_it = f.1; least = f.2 })
+    from (Some k) e = (k, (least_found (has w) 128 k).0 e)
 
 -- a step that is left once and takes at its place: what is left of those that take there without the first of them tells
 -- whether it is the only one
 pub last_told : (s : Schedule) (t : ℕ) → t < 128 → at s.left t ≡ 1 → (w w' : ℕ) → w ≡ at s.takers (at s.inputs t) → has w t ≡ true →
-    ((k : ℕ) → IsFirst 128 w k → (u : ℕ) → has w' u ≡ (has w u && not (eqb u k))) →
-    (o : Option ℕ) → MatchOption o (IsEmpty w') (IsFirst 128 w') → TakesLast s t (not (is_some o))
+    ((k : ℕ) → IsLeast (has w) 128 k → (u : ℕ) → has w' u ≡ (has w u && not (eqb u k))) →
+    (o : Option ℕ) → MatchOption o (IsEmpty w') (IsLeast (has w') 128) → TakesLast s t (not (is_some o))
 last_told s t l once w w' row there less None none = (
   once,
   λ u h. is_first u (ap (λ (v : ℕ). has v u) row ∙ h) ∙ sym (is_first t there),
 )
   where
-    k : (k : ℕ) × IsFirst 128 w k
+    k : (k : ℕ) × IsLeast (has w) 128 k
     k = first_of w t l there
 
     is_first : (u : ℕ) → has w u ≡ true → u ≡ k.0
@@ -185,11 +186,11 @@ last_told s t l once w w' row there less None none = (
     ]
 last_told s t l once w w' row there less (Some u) f = inr (elim (cases_eq k.0 t) [
   | inl same ↦ (u, ap (λ (v : ℕ). has v u) (sym row) ∙ both.0, λ e. eqb-false u k.0 (not-true (eqb u k.0) both.1) (e ∙ sym same))
-  | inr other ↦ (k.0, ap (λ (v : ℕ). has v k.0) (sym row) ∙ k.1.in_it, other)
+  | inr other ↦ (k.0, ap (λ (v : ℕ). has v k.0) (sym row) ∙ k.1.passes, other)
 ])
   where
-    k : (k : ℕ) × IsFirst 128 w k
+    k : (k : ℕ) × IsLeast (has w) 128 k
     k = first_of w t l there
 
     both : (has w u ≡ true) × (not (eqb u k.0) ≡ true)
-    both = and_parts (has w u) (not (eqb u k.0)) (sym (less k.0 k.1 u) ∙ f.in_it)
+    both = and_parts (has w u) (not (eqb u k.0)) (sym (less k.0 k.1 u) ∙ f.passes)

@@ -57,8 +57,8 @@ found_safe N law m x t can e =
     let inside = law.inputs_inside in
     let short = ((done_exactly_if N inside m x).0 can).0 in
     let found = (least_found (is_safe N m x) N.steps t).0 e in (
-      (safe_decided N inside m x short t).0 found.1,
-      λ u h s. true≢false (sym ((safe_decided N inside m x short u).1 s) ∙ found.2 u h),
+      (safe_decided N inside m x short t).0 found.passes,
+      λ u h s. true≢false (sym ((safe_decided N inside m x short u).1 s) ∙ found.least u h),
     )
 
 -- what one firing of a step of the tally yields, at a place and in all

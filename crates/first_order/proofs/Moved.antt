@@ -7,7 +7,8 @@ use Rattle.theory.specs.Nets.{NetMeaning}
 use Rattle.theory.specs.Rows.{at}
 use Rattle.theory.specs.Firing.{Marking, one_at}
 use Rattle.theory.specs.Tallies.{Tally}
-use Rattle.sets.specs.Flags.{has, IsFirst}
+use Rattle.theory.specs.Laws.{IsLeast}
+use Rattle.sets.specs.Flags.{has}
 use Rattle.sets.proofs.Passed.{passed, one_passed, first_not_passed}
 use Rattle.first_order.specs.declared.schedule.Schedule.{Schedule}
 use Rattle.first_order.specs.Shows.{Shows}
@@ -33,7 +34,7 @@ taken_last m y i p some = elim (one_tells i p) [
 ]
 
 -- the counts with what is yielded at one place more of a set
-module _ (places rest rest' k : ℕ) (first : IsFirst 64 rest k) (inside : (p : ℕ) → has rest p ≡ true → has places p ≡ true)
+module _ (places rest rest' k : ℕ) (first : IsLeast (has rest) 64 k) (inside : (p : ℕ) → has rest p ≡ true → has places p ≡ true)
     (less : (p : ℕ) → has rest' p ≡ (has rest p && not (eqb p k))) (row : List ℕ) (was y : ℕ → ℕ) (i v : ℕ) where
   pub yield_added : i ≡ k → i < length row → v ≡ y k → ((p : ℕ) → at row p ≡ was p + cond (passed places rest p) (y p) 0) →
       (p : ℕ) → at (set row i (at row i + v)) p ≡ was p + cond (passed places rest' p) (y p) 0

@@ -1,7 +1,7 @@
 //! The schedule: the tables that say which step comes next, built, asked and kept.
 ghost use Rattle.reached.specs.Led.{Led, has_at};
 ghost use Rattle.sets.specs.Flags.{has};
-ghost use Rattle.std.specs.Prelude.{◌≡◌, ℕ, ◌+◌, ◌-◌, ◌^◌, ◌<◌, true, cond, not, ◌&&◌, ◌||◌, ◌==◌, false, Decides};
+ghost use Rattle.std.specs.Prelude.{◌≡◌, ℕ, ◌+◌, ◌-◌, ◌^◌, ◌<◌, true, if◌then◌else◌, not, ◌&&◌, ◌||◌, ◌==◌, false, ◌↔◌, IsTrue};
 ghost use Rattle.std.specs.Prelude.{IfSome, ◌≤◌};
 ghost use Rattle.theory.specs.Firing.{Marking, one_at, fired};
 ghost use Rattle.theory.specs.Nets.{NetMeaning};
@@ -174,7 +174,7 @@ impl Schedule {
     fn comes_back(&mut self, step: u16) -> bool
         requires inside { step < 128 }
         requires none { yields_in self.old step (at self.old.inputs step) ≡ false }
-        ensures answer { Decides result (Led (λ q p. has_at self.old.origins.before p q) (marked_after self.old step) (at self.old.inputs step)) }
+        ensures answer { IsTrue result ↔ Led (λ q p. has_at self.old.origins.before p q) (marked_after self.old step) (at self.old.inputs step) }
         ensures kept { Kept self.old self.new }
     {
         let place = self.input(step);
@@ -289,7 +289,7 @@ impl Schedule {
 /// Adds what the step yields at the places, of those where it yields.
 fn add_yields<N: Net>(counts: &mut [u32; PLACES], net: &N, step: u16, places: PlaceSet)
     requires { (p : ℕ) → at counts.old p + (N.net net.now).yields step p < 2 ^ 32 }
-    ensures { (p : ℕ) → at counts.new p ≡ at counts.old p + cond (has places p) ((N.net net.now).yields step p) 0 }
+    ensures { (p : ℕ) → at counts.new p ≡ at counts.old p + (if has places p then (N.net net.now).yields step p else 0) }
 {
     for place in places.iter() {
         counts[usize::from(place)] += u32::from(net.yield_at(step, place));

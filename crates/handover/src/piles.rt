@@ -1,6 +1,5 @@
 //! The boards that a day and its hand-over begin on.
 ghost use Rattle.std.specs.Prelude.{◌≡◌, ℕ, ◌+◌, ◌-◌, ◌<◌, IfOk, OnOk, slice_index};
-ghost use Rattle.boards.specs.Rows.{at_place};
 ghost use Rattle.handover.specs.Starts.{ShowsStart};
 ghost use Rattle.layers.specs.Renamings.{renamed};
 ghost use Rattle.slot_board.specs.Slots.{counts_of};
@@ -38,7 +37,7 @@ pub(crate) fn first_board(start: &[u32]) -> Result<SlotBoard, Unfit>
 impl SecondBoard {
     /// A renaming over an allowance over a count board, with the start on it.
     pub(crate) fn with(&self, start: &[u32]) -> Result<Pile, Unfit>
-        ensures { IfOk result (λ b. ShowsStart start.now (renamed b.row (at_place b.below.below.counts))) }
+        ensures { IfOk result (λ b. ShowsStart start.now (renamed b.row (at b.below.below.counts))) }
     {
         self.pile(start).map_err(Unfit::SecondBoard)
     }
@@ -54,7 +53,7 @@ impl SecondBoard {
     }
 
     fn pile(&self, start: &[u32]) -> Result<Pile, Refusal>
-        ensures { IfOk result (λ b. ShowsStart start.now (renamed b.row (at_place b.below.below.counts))) }
+        ensures { IfOk result (λ b. ShowsStart start.now (renamed b.row (at b.below.below.counts))) }
     {
         let blocks = start
             .iter()

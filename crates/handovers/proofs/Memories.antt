@@ -64,13 +64,13 @@ kept_findings (Some x) mine memory h = refl
 module _ (N : NetMeaning) (law : NetLaw N) where
   order_long : (s : State) (c : answers.Call) (memory : List ℕ) → length (order_left N s c memory) ≡ length memory
   order_long s (fire t) memory = refl
-  order_long s (resume tally target size) memory = ((promise.in_any_state N law s).resume_writes tally target memory).as_long
+  order_long s (resume tally target size) memory = ((promise.told_and_left N law s).resume_writes tally target memory).as_long
   order_long s (survey tally target size) memory = refl
 
   findings_long : (s : State) (c : answers.Call) (memory : List Finding) → length (findings_left N s c memory) ≡ length memory
   findings_long s (fire t) memory = refl
   findings_long s (resume tally target size) memory = refl
-  findings_long s (survey tally target size) memory = ((promise.in_any_state N law s).survey_writes tally target memory).as_long
+  findings_long s (survey tally target size) memory = ((promise.told_and_left N law s).survey_writes tally target memory).as_long
 
   pub order_wrote : (s : State) (c : answers.Call) (n : ℕ) (memory o : List ℕ) → Sized (length memory) n c → answer_to N s c ≡ order_written o → order_left N s c memory ≡ written o memory
   order_wrote s (fire t) n memory o z e = absurd (fire_no_order (fire_refusal N s t) o e)

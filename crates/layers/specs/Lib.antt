@@ -1,4 +1,3 @@
 pub mod Allowances
 pub mod Renamings
 pub mod Piles
-pub mod Permuted

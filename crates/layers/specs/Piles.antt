@@ -2,7 +2,7 @@
 use Rattle.std.specs.Prelude.{◌≡◌, ℕ, ◌+◌, ◌-◌, ◌<◌, ◌≤◌, ◌⊎◌, Ok, Err, Result}
 use Rattle.refusals.specs.declared.Refusal.{Refusal}
 use Rattle.refusals.specs.declared.Refusal.TheVariants.{NoSuchPlace, PlaceEmpty}
-use Rattle.boards.specs.Boards.{only_at}
+use Rattle.theory.specs.Firing.{only_at}
 
 -- the counts with one block moved
 abbrev pub moved : ℕ → ℕ → (ℕ → ℕ) → ℕ → ℕ

@@ -1,5 +1,5 @@
 -- What a renaming row is, the counts and rows of numbers under it, and what its load answers and leaves.
-use Rattle.std.specs.Prelude.{◌≡◌, ℕ, ◌<◌, cond, List, length, Ok, Err, Result, nat_lt, slice_index}
+use Rattle.std.specs.Prelude.{◌≡◌, ℕ, ◌<◌, if◌then◌else◌, List, length, Ok, Err, Result, nat_lt, slice_index}
 use Rattle.refusals.specs.declared.Refusal.{Refusal}
 use Rattle.refusals.specs.declared.Refusal.TheVariants.{NotARenaming}
 
@@ -11,7 +11,7 @@ pub record IsRenaming (row : List ℕ) : Type 0 where
 
 -- what lies at p lies below at the place with the number in the row's entry p
 abbrev pub renamed : List ℕ → (ℕ → ℕ) → ℕ → ℕ
-renamed row counts p = cond (nat_lt p 64) (counts (slice_index row p)) 0
+renamed row counts p = if nat_lt p 64 then counts (slice_index row p) else 0
 
 -- the numbers of a row by place, in the row that has them by the places below
 pub record RowBelow (row numbers below : List ℕ) : Type 0 where

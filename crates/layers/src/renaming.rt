@@ -6,7 +6,7 @@ ghost use Rattle.theory.specs.Rows.{at};
 ghost use Rattle.layers.specs.Renamings.{IsRenaming, renamed, RowBelow, RenameSays};
 ghost use Rattle.std.proofs.lemmas.Bool.{cond-true, lt-ltb};
 ghost use Rattle.theory.proofs.SumLaws.{sum_to_same};
-ghost use Rattle.layers.specs.Permuted.{sum_to_permuted};
+ghost use Rattle.boards.proofs.Permuted.{sum_to_permuted};
 
 use boards::{Board, PLACES, index_of};
 use refusals::Refusal;

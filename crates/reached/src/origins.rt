@@ -1,5 +1,5 @@
 //! Where each place is reached from.
-ghost use Rattle.std.specs.Prelude.{◌≡◌, ℕ, ◌<◌, ◌≤◌, true, false, not, ◌&&◌, ◌||◌, ◌==◌, Decides, length};
+ghost use Rattle.std.specs.Prelude.{◌≡◌, ℕ, ◌<◌, ◌≤◌, true, false, not, ◌&&◌, ◌||◌, ◌==◌, ◌↔◌, IsTrue, length};
 ghost use Rattle.sets.specs.Flags.{has};
 ghost use Rattle.reached.specs.Led.{OtherOrigin, has_at};
 ghost use Rattle.theory.specs.Rows.{at};
@@ -16,7 +16,7 @@ pub struct Origins {
     /// For each place in `known`, all other places from which it is reached.
     above: [PlaceSet; MOST_PLACES],
     known: PlaceSet,
-    ghost found: { (p : ℕ) → p < 64 → has known p ≡ true → (q : ℕ) → Decides (has_at above p q) (OtherOrigin (has_at before) p q) },
+    ghost found: { (p : ℕ) → p < 64 → has known p ≡ true → (q : ℕ) → IsTrue (has_at above p q) ↔ OtherOrigin (has_at before) p q },
 }
 
 impl Origins {
@@ -44,7 +44,7 @@ impl Origins {
     pub fn others(&mut self, place: u8) -> PlaceSet
         requires { place < 64 }
         ensures same { self.new.before ≡ self.old.before }
-        ensures answer { (q : ℕ) → Decides (has result q) (OtherOrigin (has_at self.old.before) place q) }
+        ensures answer { (q : ℕ) → IsTrue (has result q) ↔ OtherOrigin (has_at self.old.before) place q }
     {
         if !self.known.contains(place) {
             let first = PlaceSet::empty().with(place);

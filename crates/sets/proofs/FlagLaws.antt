@@ -7,7 +7,8 @@ use Rattle.std.proofs.lemmas.Nat.{div_below, one_shl}
 use Rattle.std.proofs.lemmas.Nat.Bits.{bit_at_and, bit_at_or, bit_at_not, bit_at-lt, bit_at-zero, and_pow, bit_at_set_same, bit_at_set_other, bit_at-trailing_zeros}
 use Rattle.std.specs.Int.{Width, bit_at, trailing_zeros}
 use Rattle.theory.proofs.Decided.{least_found, none_found}
-use Rattle.sets.specs.Flags.{has, first_in, IsEmpty, IsFirst}
+use Rattle.theory.specs.Laws.{IsLeast}
+use Rattle.sets.specs.Flags.{has, first_in, IsEmpty}
 
 -- SETS
 
@@ -162,7 +163,7 @@ without_flag n w v u m p k none one left above = elim (cases_eq p k) [
 
 -- the first place of a set, as the number of zeros below it
 pub first_is : (t : Width) (w : ℕ) → w < 2 ^ bits t → (e : Bool) → Decides e (IsEmpty w) → (r : Option ℕ) → is_some r ≡ not e →
-    IfSome r (λ z. z ≡ trailing_zeros t w) → (r ≡ first_in (bits t) w) × MatchOption r (IsEmpty w) (IsFirst (bits t) w)
+    IfSome r (λ z. z ≡ trailing_zeros t w) → (r ≡ first_in (bits t) w) × MatchOption r (IsEmpty w) (IsLeast (has w) (bits t))
 unfolding first_in
 first_is t w l e d None s z =
     let none = d.0 (not-false e (sym s)) in
@@ -173,7 +174,7 @@ first_is t w l e d (Some p) s z =
       | inr h ↦ absurd (both_ways e (not-true e (sym s)) (d.1 (λ p. ap (λ (v : ℕ). has v p) (omega arith) ∙ has_none p)))
     ] in
     let f = first_flag t w l some in
-    let at : p ≡ trailing_zeros t w = z in (
-      sym ((least_found (has w) (bits t) p).1 (subst (λ (j : ℕ). (j < bits t) × (has w j ≡ true) × ((q : ℕ) → q < j → has w q ≡ false)) (sym at) f)),
-      subst (IsFirst (bits t) w) (sym at) (record { inside = f.0; in_it = f.1; least = f.2 }),
-    )
+    let at : p ≡ trailing_zeros t w = z in
+    let i : IsLeast (has w) (bits t) p =
+    subst (IsLeast (has w) (bits t)) (sym at) (record { inside = f.0; passes = f.1; least = f.2 }) in
+    (sym ((least_found (has w) (bits t) p).1 i), i)

@@ -3,7 +3,8 @@ use Rattle.std.proofs.Common.{◌≡◌, ℕ, zero, suc, ◌-◌, ◌/◌, ◌%�
 use Rattle.std.proofs.lemmas.Bool.{cases_eq, cases_lt, eq-eqb, eqb-true, eqb-false, ne_eqb, and_left, and_right, both_ways}
 use Rattle.std.proofs.lemmas.Nat.Bits.{bit_at_lowest, bit_at-suc, bit_at-lt}
 use Rattle.std.specs.Int.{bit_at}
-use Rattle.sets.specs.Flags.{has, IsEmpty, IsFirst}
+use Rattle.theory.specs.Laws.{IsLeast}
+use Rattle.sets.specs.Flags.{has, IsEmpty}
 use Rattle.sets.proofs.FlagLaws.{has_and, has_none}
 
 -- an even number less 1 has the half less 1, and an odd one has its half
@@ -77,9 +78,9 @@ some_not_zero w k h = elim (cases_lt 0 w) [
 ]
 
 -- a set without its first place, where u is the word less 1
-pub less_first : (n w u k : ℕ) → (0 < w → u ≡ w - 1) → IsFirst n w k → (t : ℕ) → has (bit_and w u) t ≡ (has w t && not (eqb t k))
+pub less_first : (n w u k : ℕ) → (0 < w → u ≡ w - 1) → IsLeast (has w) n k → (t : ℕ) → has (bit_and w u) t ≡ (has w t && not (eqb t k))
 less_first n w u k less first t =
-    ap (λ (v : ℕ). has (bit_and w v) t) (less (some_not_zero w k first.in_it)) ∙ has_less w k first.in_it first.least t
+    ap (λ (v : ℕ). has (bit_and w v) t) (less (some_not_zero w k first.passes)) ∙ has_less w k first.passes first.least t
 
 -- nothing is in a word and an empty one
 pub none_in_both : (w u : ℕ) → IsEmpty w → IsEmpty (bit_and w u)

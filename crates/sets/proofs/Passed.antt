@@ -1,7 +1,8 @@
 -- A loop over a set: which of the set were passed, where the rest is still to come.
 use Rattle.std.proofs.Common.{◌≡◌, ℕ, Bool, true, false, not, ◌&&◌, ◌||◌, eqb, sym, refl, ap, ◌∙◌, subst, inl, inr}
 use Rattle.std.proofs.lemmas.Bool.{cases_eq, eq-eqb, ne_eqb, and_parts}
-use Rattle.sets.specs.Flags.{has, IsFirst}
+use Rattle.theory.specs.Laws.{IsLeast}
+use Rattle.sets.specs.Flags.{has}
 
 and_all : (v : Bool) → (v && not false) ≡ v
 and_all true = refl
@@ -15,7 +16,7 @@ or_nothing false = refl
 abbrev pub passed : ℕ → ℕ → ℕ → Bool
 passed set rest p = has set p && not (has rest p)
 
-module _ (n set rest rest' k : ℕ) (first : IsFirst n rest k) (inside : (p : ℕ) → has rest p ≡ true → has set p ≡ true)
+module _ (n set rest rest' k : ℕ) (first : IsLeast (has rest) n k) (inside : (p : ℕ) → has rest p ≡ true → has set p ≡ true)
     (less : (p : ℕ) → has rest' p ≡ (has rest p && not (eqb p k))) where
   -- the rest is still of the set
   pub rest_inside : (p : ℕ) → has rest' p ≡ true → has set p ≡ true
@@ -26,8 +27,8 @@ module _ (n set rest rest' k : ℕ) (first : IsFirst n rest k) (inside : (p : �
   one_passed p = elim (cases_eq p k) [
     | inl e ↦
         subst (λ (q : ℕ). passed set rest' q ≡ (passed set rest q || eqb q k)) (sym e)
-        (ap (λ (v : Bool). has set k && not v) (less k ∙ ap (λ (v : Bool). has rest k && not v) (eq-eqb k k refl) ∙ ap (λ (v : Bool). v && not true) first.in_it)
-        ∙ and_all (has set k) ∙ inside k first.in_it ∙ or_there (passed set rest k) (eqb k k) (eq-eqb k k refl))
+        (ap (λ (v : Bool). has set k && not v) (less k ∙ ap (λ (v : Bool). has rest k && not v) (eq-eqb k k refl) ∙ ap (λ (v : Bool). v && not true) first.passes)
+        ∙ and_all (has set k) ∙ inside k first.passes ∙ or_there (passed set rest k) (eqb k k) (eq-eqb k k refl))
     | inr d ↦
         ap (λ (v : Bool). has set p && not v) (less p ∙ ap (λ (v : Bool). has rest p && not v) (ne_eqb p k d) ∙ and_all (has rest p))
         ∙ sym (or_nothing (passed set rest p)) ∙ ap (λ (v : Bool). passed set rest p || v) (sym (ne_eqb p k d))
@@ -38,8 +39,8 @@ module _ (n set rest rest' k : ℕ) (first : IsFirst n rest k) (inside : (p : �
       or_there false w e = sym e
 
 -- the first of the rest was not passed
-pub first_not_passed : (n set rest k : ℕ) → IsFirst n rest k → passed set rest k ≡ false
-first_not_passed n set rest k first = ap (λ (v : Bool). has set k && not v) first.in_it ∙ none (has set k)
+pub first_not_passed : (n set rest k : ℕ) → IsLeast (has rest) n k → passed set rest k ≡ false
+first_not_passed n set rest k first = ap (λ (v : Bool). has set k && not v) first.passes ∙ none (has set k)
   where
     none : (v : Bool) → (v && not true) ≡ false
     none true = refl

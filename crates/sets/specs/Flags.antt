@@ -1,5 +1,6 @@
 -- A set of numbers as the binary digits of one number.
-use Rattle.std.specs.Prelude.{◌≡◌, ℕ, ◌/◌, ◌%◌, ◌^◌, ◌<◌, Bool, true, false, not, ◌&&◌, Option, MatchOption, ◌==◌}
+use Rattle.std.specs.Prelude.{◌≡◌, ℕ, ◌/◌, ◌%◌, ◌^◌, Bool, false, not, ◌&&◌, Option, MatchOption, ◌==◌}
+use Rattle.theory.specs.Laws.{IsLeast}
 use Rattle.theory.specs.Tests.{least}
 
 -- p is in the set: digit p of the word is 1
@@ -14,13 +15,7 @@ first_in n w = least (has w) n
 abbrev pub IsEmpty : ℕ → Type 0
 IsEmpty w = (p : ℕ) → has w p ≡ false
 
--- p is the least in the set, and below n
-pub record IsFirst (n w p : ℕ) : Type 0 where
-  pub inside : p < n
-  pub in_it : has w p ≡ true
-  pub least : (q : ℕ) → q < p → has w q ≡ false
-
 -- the least that is in the set and below n is taken out, or nothing is in it
 abbrev pub TakesFirst : (n w : ℕ) → Option ℕ → (rest : ℕ) → Type 0
 TakesFirst n w r rest =
-    MatchOption r (IsEmpty w) (λ p. IsFirst n w p × ((q : ℕ) → has rest q ≡ (has w q && not (q == p))))
+    MatchOption r (IsEmpty w) (λ p. IsLeast (has w) n p × ((q : ℕ) → has rest q ≡ (has w q && not (q == p))))

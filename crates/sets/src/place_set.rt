@@ -1,6 +1,7 @@
 //! Place sets: a set of places 0 to 63 as the 64 flags of one word.
-ghost use Rattle.std.specs.Prelude.{◌≡◌, ℕ, ◌^◌, ◌<◌, ◌≤◌, Bool, true, false, not, ◌&&◌, ◌||◌, Decides, MatchOption, ◌==◌, nat_lt};
-ghost use Rattle.sets.specs.Flags.{has, first_in, IsEmpty, IsFirst, TakesFirst};
+ghost use Rattle.std.specs.Prelude.{◌≡◌, ℕ, ◌^◌, ◌<◌, ◌≤◌, Bool, true, false, not, ◌&&◌, ◌||◌, ◌↔◌, IsTrue, MatchOption, ◌==◌, nat_lt};
+ghost use Rattle.theory.specs.Laws.{IsLeast};
+ghost use Rattle.sets.specs.Flags.{has, first_in, IsEmpty, TakesFirst};
 ghost use Rattle.std.specs.Iterator.{at_most};
 
 use crate::MOST_PLACES;
@@ -80,7 +81,7 @@ impl PlaceSet {
 
     /// The set without its least place.
     pub fn without_first(self) -> PlaceSet
-        ensures answer { (k : ℕ) → IsFirst 64 self k → (p : ℕ) → has result p ≡ (has self p && not (p == k)) }
+        ensures answer { (k : ℕ) → IsLeast (has self) 64 k → (p : ℕ) → has result p ≡ (has self p && not (p == k)) }
         ensures none { IsEmpty self → IsEmpty result }
         ensures shrinks { 0 < self → result < self }
     {
@@ -111,14 +112,14 @@ impl PlaceSet {
 
     /// Whether some place is in both sets.
     pub fn intersects(self, other: PlaceSet) -> bool
-        ensures { Decides result ((p : ℕ) × (has self p ≡ true) × (has other p ≡ true)) }
+        ensures { IsTrue result ↔ ((p : ℕ) × (has self p ≡ true) × (has other p ≡ true)) }
     {
         self.word & other.word != 0
     }
 
     /// Whether no place is in the set.
     pub fn is_empty(self) -> bool
-        ensures { Decides result (IsEmpty self) }
+        ensures { IsTrue result ↔ IsEmpty self }
     {
         self.word == 0
     }
@@ -126,7 +127,7 @@ impl PlaceSet {
     /// The least place of the set.
     pub fn first(self) -> Option<u8>
         ensures answer { result ≡ first_in 64 self }
-        ensures cases { MatchOption result (IsEmpty self) (IsFirst 64 self) }
+        ensures cases { MatchOption result (IsEmpty self) (IsLeast (has self) 64) }
     {
         // at most 63 where the word is not 0, so the cast keeps it
         (!self.is_empty()).then(|| self.word.trailing_zeros() as u8)

@@ -1,6 +1,7 @@
 //! Step sets: a set of steps 0 to 127 as the 128 flags of one word.
-ghost use Rattle.std.specs.Prelude.{◌≡◌, ℕ, ◌^◌, ◌<◌, ◌≤◌, Bool, false, not, ◌&&◌, ◌||◌, Decides, MatchOption, ◌==◌, nat_lt};
-ghost use Rattle.sets.specs.Flags.{has, first_in, IsEmpty, IsFirst, TakesFirst};
+ghost use Rattle.std.specs.Prelude.{◌≡◌, ℕ, ◌^◌, ◌<◌, ◌≤◌, Bool, false, not, ◌&&◌, ◌||◌, ◌↔◌, IsTrue, MatchOption, ◌==◌, nat_lt};
+ghost use Rattle.theory.specs.Laws.{IsLeast};
+ghost use Rattle.sets.specs.Flags.{has, first_in, IsEmpty, TakesFirst};
 ghost use Rattle.std.specs.Iterator.{at_most};
 
 use crate::MOST_STEPS;
@@ -60,7 +61,7 @@ impl StepSet {
 
     /// The set without its least step.
     pub fn without_first(self) -> StepSet
-        ensures answer { (k : ℕ) → IsFirst 128 self k → (t : ℕ) → has result t ≡ (has self t && not (t == k)) }
+        ensures answer { (k : ℕ) → IsLeast (has self) 128 k → (t : ℕ) → has result t ≡ (has self t && not (t == k)) }
         ensures none { IsEmpty self → IsEmpty result }
         ensures shrinks { 0 < self → result < self }
     {
@@ -92,7 +93,7 @@ impl StepSet {
 
     /// Whether no step is in the set.
     pub fn is_empty(self) -> bool
-        ensures { Decides result (IsEmpty self) }
+        ensures { IsTrue result ↔ IsEmpty self }
     {
         self.word == 0
     }
@@ -100,7 +101,7 @@ impl StepSet {
     /// The least step of the set.
     pub fn first(self) -> Option<u16>
         ensures answer { result ≡ first_in 128 self }
-        ensures cases { MatchOption result (IsEmpty self) (IsFirst 128 self) }
+        ensures cases { MatchOption result (IsEmpty self) (IsLeast (has self) 128) }
     {
         // at most 127 where the word is not 0, so the cast keeps it
         (!self.is_empty()).then(|| self.word.trailing_zeros() as u16)

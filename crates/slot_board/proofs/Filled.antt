@@ -4,7 +4,8 @@ use Rattle.std.proofs.lemmas.Bool.{cases_eq, cases_lt, eq-eqb, ne_eqb, lt-ltb, l
 use Rattle.slot_board.specs.Slots.{occurs, filled}
 use Rattle.slot_board.specs.Passes.{HighestFilled}
 use Rattle.slot_board.proofs.LowestSlot.{holds_occurs}
-use Rattle.slot_board.specs.Occurs.{is_same, is_other, occurs_none, occurs_cons}
+use Rattle.theory.proofs.TallySums.{one_same, one_other}
+use Rattle.slot_board.proofs.Occurring.{occurs_none, occurs_cons}
 
 pub filled_none : (held n : ℕ) → filled held n [] ≡ []
 unfolding filled
@@ -51,10 +52,10 @@ occurs_filled_empty held n (slot ∷ slots) ne =
     ⊎_elim
     (λ (e : slot ≡ 0).
     ⊎_elim
-    (λ (h : occurs 0 slots < n). omega (arith, rest, before, is_same slot 0 e, is_other held 0 ne, ap (occurs 0) (filled_here held n slot slots e h), occurs_cons 0 held (filled held n slots)))
-    (λ h. omega (arith, rest, before, is_same slot 0 e, ap (occurs 0) (filled_enough held n slot slots h), occurs_cons 0 slot (filled held n slots)))
+    (λ (h : occurs 0 slots < n). omega (arith, rest, before, one_same slot 0 e, one_other held 0 ne, ap (occurs 0) (filled_here held n slot slots e h), occurs_cons 0 held (filled held n slots)))
+    (λ h. omega (arith, rest, before, one_same slot 0 e, ap (occurs 0) (filled_enough held n slot slots h), occurs_cons 0 slot (filled held n slots)))
     (cases_lt (occurs 0 slots) n))
-    (λ block. omega (arith, rest, before, is_other slot 0 block, ap (occurs 0) (filled_block held n slot slots block), occurs_cons 0 slot (filled held n slots)))
+    (λ block. omega (arith, rest, before, one_other slot 0 block, ap (occurs 0) (filled_block held n slot slots block), occurs_cons 0 slot (filled held n slots)))
     (cases_eq slot 0)
 
 -- as many slots more hold the number as are filled
@@ -67,10 +68,10 @@ occurs_filled_held held n (slot ∷ slots) ne =
     ⊎_elim
     (λ (e : slot ≡ 0).
     ⊎_elim
-    (λ (h : occurs 0 slots < n). omega (arith, rest, before, empty, is_same slot 0 e, is_same held held refl, is_other slot held (λ z. ne (sym z ∙ e)), ap (occurs held) (filled_here held n slot slots e h), occurs_cons held held (filled held n slots)))
-    (λ h. omega (arith, rest, before, empty, is_same slot 0 e, ap (occurs held) (filled_enough held n slot slots h), occurs_cons held slot (filled held n slots)))
+    (λ (h : occurs 0 slots < n). omega (arith, rest, before, empty, one_same slot 0 e, one_same held held refl, one_other slot held (λ z. ne (sym z ∙ e)), ap (occurs held) (filled_here held n slot slots e h), occurs_cons held held (filled held n slots)))
+    (λ h. omega (arith, rest, before, empty, one_same slot 0 e, ap (occurs held) (filled_enough held n slot slots h), occurs_cons held slot (filled held n slots)))
     (cases_lt (occurs 0 slots) n))
-    (λ block. omega (arith, rest, before, empty, is_other slot 0 block, ap (occurs held) (filled_block held n slot slots block), occurs_cons held slot (filled held n slots)))
+    (λ block. omega (arith, rest, before, empty, one_other slot 0 block, ap (occurs held) (filled_block held n slot slots block), occurs_cons held slot (filled held n slots)))
     (cases_eq slot 0)
 
 -- every other number is in as many slots as before
@@ -82,7 +83,7 @@ occurs_filled_other held n other (slot ∷ slots) some ne =
     ⊎_elim
     (λ (e : slot ≡ 0).
     ⊎_elim
-    (λ (h : occurs 0 slots < n). omega (arith, rest, before, is_other held other ne, is_other slot other (λ z. some (sym z ∙ e)), ap (occurs other) (filled_here held n slot slots e h), occurs_cons other held (filled held n slots)))
+    (λ (h : occurs 0 slots < n). omega (arith, rest, before, one_other held other ne, one_other slot other (λ z. some (sym z ∙ e)), ap (occurs other) (filled_here held n slot slots e h), occurs_cons other held (filled held n slots)))
     (λ h. omega (arith, rest, before, ap (occurs other) (filled_enough held n slot slots h), occurs_cons other slot (filled held n slots)))
     (cases_lt (occurs 0 slots) n))
     (λ block. omega (arith, rest, before, ap (occurs other) (filled_block held n slot slots block), occurs_cons other slot (filled held n slots)))

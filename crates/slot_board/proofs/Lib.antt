@@ -1,3 +1,4 @@
+mod Occurring
 mod LowestSlot
 mod Filled
 mod FillTurns

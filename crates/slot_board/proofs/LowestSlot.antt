@@ -3,7 +3,7 @@ use Rattle.std.proofs.Common.{◌≡◌, ℕ, zero, suc, ◌<◌, eqb, List, [],
 use Rattle.std.proofs.lemmas.Bool.{cases_eq, eq-eqb, ne_eqb, cond-true, cond-false}
 use Rattle.slot_board.specs.Slots.{occurs, lowest_with}
 use Rattle.slot_board.specs.Passes.{FirstAt}
-use Rattle.slot_board.specs.Occurs.{is_same, is_other}
+use Rattle.theory.proofs.TallySums.{one_same, one_other}
 
 lowest_here : (held slot : ℕ) (slots : List ℕ) → slot ≡ held → lowest_with held (slot ∷ slots) ≡ 0
 unfolding lowest_with
@@ -27,7 +27,7 @@ first_is_lowest held (slot ∷ slots) (suc i) first =
 pub holds_occurs : (held : ℕ) (slots : List ℕ) (i : ℕ) → i < length slots → get_or slots i 0 ≡ held → 0 < occurs held slots
 unfolding occurs
 holds_occurs held [] i h e = omega arith
-holds_occurs held (slot ∷ slots) zero h e = omega (arith, is_same slot held e)
+holds_occurs held (slot ∷ slots) zero h e = omega (arith, one_same slot held e)
 holds_occurs held (slot ∷ slots) (suc i) h e =
     omega (arith, holds_occurs held slots i (omega arith) e)
 
@@ -38,7 +38,7 @@ lowest_inside held [] h = omega arith
 lowest_inside held (slot ∷ slots) h =
     ⊎_elim
     (λ (e : slot ≡ held). omega (arith, lowest_here held slot slots e))
-    (λ ne. omega (arith, lowest_later held slot slots ne, lowest_inside held slots (omega (arith, is_other slot held ne))))
+    (λ ne. omega (arith, lowest_later held slot slots ne, lowest_inside held slots (omega (arith, one_other slot held ne))))
     (cases_eq slot held)
 
 -- and holds the number
@@ -48,5 +48,5 @@ lowest_holds held [] h = omega arith
 lowest_holds held (slot ∷ slots) h =
     ⊎_elim
     (λ (e : slot ≡ held). ap (λ i. get_or (slot ∷ slots) i 0) (lowest_here held slot slots e) ∙ e)
-    (λ ne. ap (λ i. get_or (slot ∷ slots) i 0) (lowest_later held slot slots ne) ∙ lowest_holds held slots (omega (arith, is_other slot held ne)))
+    (λ ne. ap (λ i. get_or (slot ∷ slots) i 0) (lowest_later held slot slots ne) ∙ lowest_holds held slots (omega (arith, one_other slot held ne)))
     (cases_eq slot held)

@@ -7,13 +7,15 @@ use Rattle.boards.proofs.AtPlace.{at_same, at_other}
 use Rattle.slot_board.specs.Slots.{occurs, lowest_with, filled, counts_of}
 use Rattle.slot_board.specs.Loads.{SlotsFit}
 use Rattle.slot_board.specs.Passes.{FirstAt, HighestFilled, TakenSlot, PutSlots}
-use Rattle.slot_board.specs.Occurs.{is, is_same, is_other, occurs_set}
+use Rattle.theory.specs.Firing.{one_at}
+use Rattle.theory.proofs.TallySums.{one_same, one_other}
+use Rattle.slot_board.proofs.Occurring.{occurs_set}
 use Rattle.slot_board.proofs.LowestSlot.{first_is_lowest, holds_occurs, lowest_inside, lowest_holds}
 use Rattle.slot_board.proofs.Filled.{highest_filled, length_filled, filled_small, occurs_filled_empty, occurs_filled_held, occurs_filled_other}
 
-emptied_occurs : (place held : ℕ) (slots : List ℕ) → 0 < counts_of slots place → occurs held (set slots (lowest_with (place + 1) slots) 0) + is (place + 1) held ≡ occurs held slots + is 0 held
+emptied_occurs : (place held : ℕ) (slots : List ℕ) → 0 < counts_of slots place → occurs held (set slots (lowest_with (place + 1) slots) 0) + one_at (place + 1) held ≡ occurs held slots + one_at 0 held
 emptied_occurs place held slots some =
-    omega (arith, occurs_set held slots (lowest_with (place + 1) slots) 0 (lowest_inside (place + 1) slots some), ap (λ slot. is slot held) (lowest_holds (place + 1) slots some))
+    omega (arith, occurs_set held slots (lowest_with (place + 1) slots) 0 (lowest_inside (place + 1) slots some), ap (λ slot. one_at slot held) (lowest_holds (place + 1) slots some))
 
 emptied_meaning : (place : ℕ) (slots : List ℕ) → place ≤ 63 → 0 < counts_of slots place → let slots' = set slots (lowest_with (place + 1) slots) 0 in Taken place (counts_of slots) (occurs 0 slots) (counts_of slots') (occurs 0 slots')
 emptied_meaning place slots low some =
@@ -23,12 +25,12 @@ emptied_meaning place slots low some =
       lowered =
           λ p.
           let change = emptied_occurs place (p + 1) slots some in
-          let empty = is_other 0 (p + 1) (λ z. omega arith) in
+          let empty = one_other 0 (p + 1) (λ z. omega arith) in
           ⊎_elim
-          (λ (e : place ≡ p). omega (arith, change, empty, is_same (place + 1) (p + 1) (omega arith), at_same place p 1 e))
-          (λ ne. omega (arith, change, empty, is_other (place + 1) (p + 1) (λ z. ne (omega arith)), at_other place p 1 ne))
+          (λ (e : place ≡ p). omega (arith, change, empty, one_same (place + 1) (p + 1) (omega arith), at_same place p 1 e))
+          (λ ne. omega (arith, change, empty, one_other (place + 1) (p + 1) (λ z. ne (omega arith)), at_other place p 1 ne))
           (cases_eq place p);
-      raised = omega (arith, emptied_occurs place 0 slots some, is_same 0 0 refl, is_other (place + 1) 0 (λ z. omega arith));
+      raised = omega (arith, emptied_occurs place 0 slots some, one_same 0 0 refl, one_other (place + 1) 0 (λ z. omega arith));
     }
 
 pub taken_slot : (place i : ℕ) (slots : List ℕ) → place ≤ 63 → FirstAt (place + 1) slots i → TakenSlot place slots (set slots i 0)

@@ -164,13 +164,14 @@ some_least b (suc n) k h = go (some_least b n k) (least b n) (b n) refl refl h
         option_or o (cond c (Some n) None) ≡ Some k → IsLeast b (suc n) k
     go ih (Some j) c z e f =
         let i = ih (z ∙ f) in
-        (omega arith, i.1, i.2)
+        record { inside = omega (arith, i.inside); passes = i.passes; least = i.least }
     go ih None true z e f =
-        let s : n ≡ k = cc in (
-          omega arith,
-          subst (λ (u : ℕ). b u ≡ true) s e,
-          λ j l. none_below b n z j (omega arith),
-        )
+        let s : n ≡ k = cc in
+        record {
+          inside = omega arith;
+          passes = subst (λ (u : ℕ). b u ≡ true) s e;
+          least = λ j l. none_below b n z j (omega arith);
+        }
     go ih None false z e f = absurd (some_none k (sym f))
 
 -- two least numbers are the same
@@ -190,10 +191,10 @@ least_some : (b : ℕ → Bool) (n k : ℕ) → IsLeast b n k → least b n ≡ 
 least_some b n k i = go (least b n) refl
   where
     go : (o : Option ℕ) → least b n ≡ o → least b n ≡ Some k
-    go None z = absurd (both_ways (b k) (none_below b n z k i.0) i.1)
+    go None z = absurd (both_ways (b k) (none_below b n z k i.inside) i.passes)
     go (Some j) z =
         let f = some_least b n j z in
-        z ∙ ap Some (least_same b j k f.1 f.2 i.1 i.2)
+        z ∙ ap Some (least_same b j k f.passes f.least i.passes i.least)
 
 pub least_found : LeastFound
 least_found b n k = (some_least b n k, least_some b n k)

@@ -106,8 +106,8 @@ first_steps_least N inside (suc n) m x e r =
         ]
     go rest (Some t) z =
         let f = (least_found (is_safe N m x) N.steps t).0 z in
-        let k : IsSafe N m x t = (safe_decided N inside m x both.0 t).0 f.1 in
-        (k, λ u l s. both_ways (is_safe N m x u) (f.2 u l) ((safe_decided N inside m x both.0 u).1 s), rest t k)
+        let k : IsSafe N m x t = (safe_decided N inside m x both.0 t).0 f.passes in
+        (k, λ u l s. both_ways (is_safe N m x u) (f.least u l) ((safe_decided N inside m x both.0 u).1 s), rest t k)
 
 pub computed_is_least_safe : ComputedIsLeastSafe
 computed_is_least_safe N inside m x = first_steps_least N inside (steps_asked N x) m x refl

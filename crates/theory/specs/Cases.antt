@@ -1,5 +1,5 @@
 -- Small nets with known verdicts: the rule and trying every order against what was worked out by hand.
-use Rattle.std.specs.Prelude.{◌≡◌, ℕ, zero, suc, Bool, cond, not, ◌&&◌, List, [], ◌∷◌, map, ℤ, pos, negsuc, Some, None, Option, nat_lt, slice_index_or}
+use Rattle.std.specs.Prelude.{◌≡◌, ℕ, zero, suc, Bool, if◌then◌else◌, not, ◌&&◌, List, [], ◌∷◌, map, ℤ, pos, negsuc, Some, None, Option, nat_lt, slice_index_or}
 use Rattle.std.specs.Option.{option_or, option_map}
 use Rattle.theory.specs.Nets.{NetMeaning}
 use Rattle.theory.specs.Rows.{at, row_of}
@@ -38,7 +38,7 @@ first_there f (suc n) = option_or (first_there f n) (f n)
 abbrev pub try_all : NetMeaning → Marking → Tally → ℕ → Option (List ℕ)
 try_all N m x zero = Some []
 try_all N m x (suc n) =
-    first_there (λ t. cond (ready N m x t) (option_map (λ ts. t ∷ ts) (try_all N (fired N m t) (less x t) n)) None) N.steps
+    first_there (λ t. if ready N m x t then option_map (λ ts. t ∷ ts) (try_all N (fired N m t) (less x t) n) else None) N.steps
 
 abbrev pub by_trying : NetMeaning → Marking → Tally → Option (List ℕ)
 by_trying N m x = try_all N m x (steps_asked N x)

@@ -1,15 +1,19 @@
 -- The firing rule: how a step moves blocks, which orders can be fired, and what an order leaves.
 -- The nets are the communication-free Petri nets: each transition takes one token from one place.
-use Rattle.std.specs.Prelude.{ℕ, ◌+◌, ◌-◌, ◌<◌, cond, List, [], ◌∷◌, ◌==◌}
+use Rattle.std.specs.Prelude.{ℕ, ◌+◌, ◌-◌, ◌<◌, if◌then◌else◌, List, [], ◌∷◌, ◌==◌}
 use Rattle.theory.specs.Nets.{NetMeaning}
 
 -- a marking: the number of blocks (tokens) at each place
 abbrev pub Marking : Type 0
 Marking = ℕ → ℕ
 
+-- n at the number itself, 0 at every other
+abbrev pub only_at : ℕ → ℕ → ℕ → ℕ
+only_at a b n = if a == b then n else 0
+
 -- 1 where the two numbers are equal, else 0 (the unit vector of a, at b)
 abbrev pub one_at : ℕ → ℕ → ℕ
-one_at a b = cond (a == b) 1 0
+one_at a b = only_at a b 1
 
 -- firing the transition t: one token goes from its input place, and after that the tokens that it yields arrive
 abbrev pub fired : NetMeaning → Marking → ℕ → Marking

@@ -1,5 +1,5 @@
 -- The theorems. They ask of a net only that each step takes its block inside it; a step may yield nothing.
-use Rattle.std.specs.Prelude.{◌≡◌, ℕ, ◌+◌, ◌-◌, ◌<◌, Bool, true, false, ◌⊎◌, ◌↔◌, List, [], ◌∷◌, ◌++◌, length, pos, ◌<ℤ◌, Some, None, Decides, ◌≢◌}
+use Rattle.std.specs.Prelude.{◌≡◌, ℕ, ◌+◌, ◌-◌, ◌<◌, Bool, true, false, ◌⊎◌, ◌↔◌, List, [], ◌∷◌, ◌++◌, length, pos, ◌<ℤ◌, Some, None, IsTrue, ◌≢◌}
 use Rattle.theory.specs.Nets.{NetMeaning, InputsInside}
 use Rattle.theory.specs.Firing.{Marking, fired, CanFire, after, times}
 use Rattle.theory.specs.Tallies.{Tally, Realizes, Realizable, final_number, IsShort, InSubnet, IsReached, IsCutOff, NoPlaceShort, NoPlaceCutOff}
@@ -112,38 +112,40 @@ EarlierCompares = (a b : List ℕ) → length a ≡ length b → (a ≡ b) ⊎ (
 
 -- the test for a short place says what is meant, and so below for each test
 abbrev pub ShortDecided : Type 0
-ShortDecided = (N : NetMeaning) (m : Marking) (x : Tally) (p : ℕ) → Decides (is_short N m x p) (IsShort N m x p)
+ShortDecided = (N : NetMeaning) (m : Marking) (x : Tally) (p : ℕ) → IsTrue (is_short N m x p) ↔ IsShort N m x p
 
 -- a place of the subnet
 abbrev pub SubnetDecided : Type 0
-SubnetDecided = (N : NetMeaning) (x : Tally) (p : ℕ) → Decides (in_subnet N x p) (InSubnet N x p)
+SubnetDecided = (N : NetMeaning) (x : Tally) (p : ℕ) → IsTrue (in_subnet N x p) ↔ InSubnet N x p
 
 -- a reached place: as many rounds as there are places find it
 abbrev pub ReachedDecided : Type 0
 ReachedDecided =
     (N : NetMeaning) → InputsInside N → (m : Marking) (x : Tally) (p : ℕ) → p < N.places →
-    Decides (is_reached N m x p) (IsReached N m x p)
+    IsTrue (is_reached N m x p) ↔ IsReached N m x p
 
 -- a cut-off place
 abbrev pub CutOffDecided : Type 0
 CutOffDecided =
     (N : NetMeaning) → InputsInside N → (m : Marking) (x : Tally) (p : ℕ) → p < N.places →
-    Decides (is_cut_off N m x p) (IsCutOff N m x p)
+    IsTrue (is_cut_off N m x p) ↔ IsCutOff N m x p
 
 -- a tally that can be done
 abbrev pub DoneDecided : Type 0
 DoneDecided =
-    (N : NetMeaning) → InputsInside N → (m : Marking) (x : Tally) → Decides (can_be_done N m x) (Realizable N m x)
+    (N : NetMeaning) → InputsInside N → (m : Marking) (x : Tally) → IsTrue (can_be_done N m x) ↔ Realizable N m x
 
 -- a safe step, where no place is short
 abbrev pub SafeDecided : Type 0
 SafeDecided =
     (N : NetMeaning) → InputsInside N → (m : Marking) (x : Tally) → NoPlaceShort N m x →
-    (t : ℕ) → Decides (is_safe N m x t) (IsSafe N m x t)
+    (t : ℕ) → IsTrue (is_safe N m x t) ↔ IsSafe N m x t
 
--- k passes the test, and nothing below it does
-abbrev pub IsLeast : (ℕ → Bool) → ℕ → ℕ → Type 0
-IsLeast b n k = (k < n) × (b k ≡ true) × ((j : ℕ) → j < k → b j ≡ false)
+-- k, below n, passes the test, and nothing below k does
+pub record IsLeast (b : ℕ → Bool) (n k : ℕ) : Type 0 where
+  pub inside : k < n
+  pub passes : b k ≡ true
+  pub least : (j : ℕ) → j < k → b j ≡ false
 
 -- least finds the least number that passes
 abbrev pub LeastFound : Type 0

@@ -1,5 +1,5 @@
 -- Tests that compute: which places are short, reached and cut off, which steps are safe; and the first order.
-use Rattle.std.specs.Prelude.{ℕ, zero, suc, ◌+◌, Bool, true, false, cond, not, ◌&&◌, ◌||◌, List, [], ◌∷◌, Some, None, Option, ◌==◌, nat_lt}
+use Rattle.std.specs.Prelude.{ℕ, zero, suc, ◌+◌, Bool, true, false, if◌then◌else◌, not, ◌&&◌, ◌||◌, List, [], ◌∷◌, Some, None, Option, ◌==◌, nat_lt}
 use Rattle.std.specs.Option.{option_or}
 use Rattle.theory.specs.Nets.{NetMeaning}
 use Rattle.theory.specs.Firing.{Marking, fired}
@@ -19,7 +19,7 @@ all_below b (suc n) = b n && all_below b n
 -- the least number below n that passes the test
 abbrev pub least : (ℕ → Bool) → ℕ → Option ℕ
 least b zero = None
-least b (suc n) = option_or (least b n) (cond (b n) (Some n) None)
+least b (suc n) = option_or (least b n) (if b n then Some n else None)
 
 -- the place p is short
 abbrev pub is_short : NetMeaning → Marking → Tally → ℕ → Bool

@@ -1,6 +1,6 @@
 use Rattle.std.proofs.Common.{◌≡◌, ◌+◌, ◌<◌, [], ◌∷◌, ◌++◌, length, take, Some, None, sym, refl, ap, ◌∙◌, arith, length-append, length-take}
 use Rattle.std.proofs.lemmas.List.{append-nil}
-use Rattle.bounded_list.specs.Lists.{found_below}
+use Rattle.theory.specs.Rows.{found_below}
 use Rattle.bounded_list.proofs.Written.{written_more}
 use Rattle.bounded_list.proofs.Founds.{found_few, front_more, written_at, extended}
 use Rattle.bounded_list.proofs.add_found.Goals as goal

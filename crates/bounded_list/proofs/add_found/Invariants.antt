@@ -1,5 +1,5 @@
 use Rattle.std.proofs.Common.{◌≡◌, ℕ, ◌<◌, ◌++◌, take, Option}
-use Rattle.bounded_list.specs.Lists.{found_below}
+use Rattle.theory.specs.Rows.{found_below}
 use Rattle.bounded_list.proofs.Written.{Written}
 use Rattle.bounded_list.proofs.add_found.Given as goal
 

@@ -3,18 +3,16 @@ use Rattle.std.proofs.Common.{◌≡◌, ℕ, ◌<◌, ◌≤◌, ◌&&◌, ◌+
 use mathlib.Core.Path.{fun_ext}
 use Rattle.std.proofs.lemmas.Bool.{lt-ltb}
 use Rattle.refusals.specs.Answered.{answered}
-use Rattle.theory.specs.Rows.{at}
+use Rattle.theory.specs.Rows.{at, found_below}
 use Rattle.theory.specs.Tests.{is_short, is_cut_off}
 use Rattle.answers.specs.Answers.{unless, written, is_missed}
-use Rattle.answers.specs.Findings.{found, findings, survey_refusal, short_finding, cut_off_finding, missed_finding}
+use Rattle.answers.specs.Findings.{findings, survey_refusal, short_finding, cut_off_finding, missed_finding, finding_at}
 use Rattle.answers.proofs.Sizes.{survey_fits}
 use Rattle.answers.proofs.Unless.{unless_refused, unless_accepted}
 use Rattle.answers.specs.Kinds.{target_with}
 use Rattle.answers.specs.States.{state_of, target_of}
-use Rattle.bounded_list.specs.Lists.{found_below}
 use Rattle.bounded_list.proofs.Written.{Written}
 use Rattle.sets.specs.Flags.{has}
-use Rattle.findings.specs.Found.{finding_at}
 use Rattle.findings.proofs.Listed.{found_by, three_groups}
 use Rattle.findings.proofs.list_findings.Goals as goal
 
@@ -65,8 +63,8 @@ returns g c =
     λ p h. c.cut_off_places-cut_off.ensures p ∙ ap (λ z. z && is_cut_off N.net m x p) (lt-ltb p P h) in
     let groups : found_below first P ++ (found_below second P ++ found_below third P) ≡ all =
     ap (λ z. z ++ (found_below second P ++ found_below third P)) (found_by (is_short N.net m x) (is_short N.net m x) (short_finding N.net m x) P (λ p h. refl))
-    ∙ ap (λ z. found (is_short N.net m x) (short_finding N.net m x) P ++ (z ++ found_below third P)) (found_by (is_cut_off N.net m x) (has word) cut_off_finding P cut)
-    ∙ ap (λ z. found (is_short N.net m x) (short_finding N.net m x) P ++ (found (is_cut_off N.net m x) cut_off_finding P ++ z))
+    ∙ ap (λ z. found_below (finding_at (is_short N.net m x) (short_finding N.net m x)) P ++ (z ++ found_below third P)) (found_by (is_cut_off N.net m x) (has word) cut_off_finding P cut)
+    ∙ ap (λ z. found_below (finding_at (is_short N.net m x) (short_finding N.net m x)) P ++ (found_below (finding_at (is_cut_off N.net m x) cut_off_finding) P ++ z))
     (found_by (is_missed N.net m x K) (is_missed N.net m x K) (missed_finding N.net m x K) P (λ p h. refl))
     ∙ ap (λ z. findings N.net z x K) counted
     ∙ ap (findings N.net H x) kind in

@@ -3,7 +3,7 @@ use Rattle.std.proofs.Common.{rules, true, ◌≡◌, ℕ, ◌+◌, ◌<◌, sym
 use Rattle.std.proofs.lemmas.Bool.{cases_lt, ltb-true}
 use Rattle.sets.specs.Flags.{has}
 use Rattle.sets.proofs.Passed.{passed, none_passed, one_passed, first_not_passed, rest_inside}
-use Rattle.boards.specs.Boards.{only_at}
+use Rattle.theory.specs.Firing.{only_at}
 use Rattle.firings.proofs.Puts.{put_none, put_fits, put_more, put_accepted}
 use Rattle.firings.proofs.put_yields.Goals as goal
 
@@ -33,7 +33,7 @@ loop-place-preserved g c =
     let less = c.in-Some.ensures.steps.1 in
     let inside = c.loop-place.invariant.1 in
     let is_set : set ≡ c.yield_places.result = search rules in
-    let there : has c.yield_places.result p ≡ true = sym (ap (λ w. has w p) is_set) ∙ inside p first.in_it in
+    let there : has c.yield_places.result p ≡ true = sym (ap (λ w. has w p) is_set) ∙ inside p first.passes in
     let some : 0 < Y p = ltb-true 0 (Y p) (sym (c.yield_places.ensures p) ∙ there) in
     let below : p < n = elim (cases_lt p n) [
       | inl l ↦ l

@@ -1,7 +1,8 @@
 use Rattle.std.proofs.Common.{◌≡◌, ◌+◌, Err, set, refl, arith, rules}
 use Rattle.std.proofs.lemmas.Result.{err_from_is_err_and}
 use Rattle.refusals.specs.declared.Refusal.TheVariants.{PlaceEmpty}
-use Rattle.slot_board.specs.Occurs.{occurs_absent, occurs_le_length}
+use Rattle.slot_board.specs.Occurs.{occurs_absent}
+use Rattle.slot_board.proofs.Occurring.{occurs_le_length}
 use Rattle.slot_board.proofs.Moves.{taken_slot, emptied_fit}
 use Rattle.slot_board.proofs.empty_lowest.Goals as goal
 

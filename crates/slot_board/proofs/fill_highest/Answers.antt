@@ -1,6 +1,7 @@
 use Rattle.std.proofs.Common.{◌≡◌, ◌+◌, ◌-◌, ◌<◌, length, get_or, drop, set, sym, ap, ◌∙◌, arith}
 use Rattle.slot_board.specs.Slots.{occurs}
-use Rattle.slot_board.specs.Occurs.{is_same, is_other, occurs_drop_more, occurs_drop_all}
+use Rattle.theory.proofs.TallySums.{one_same, one_other}
+use Rattle.slot_board.proofs.Occurring.{occurs_drop_more, occurs_drop_all}
 use Rattle.slot_board.proofs.FillTurns.{done_from, done_none, next_slot, turn_fills, turn_keeps, done_enough}
 use Rattle.slot_board.proofs.Moves.{put_slots, filled_fit}
 use Rattle.slot_board.proofs.fill_highest.Goals as goal
@@ -34,7 +35,7 @@ loop-i-preserved-then-slots-i-eq-EMPTY c =
     let empty = sym (next_slot held n j slots inside) ∙ ap (λ s. get_or s j 0) (sym before) ∙ c.if-slots-i-eq-EMPTY.true in
     let above = ap (λ k. occurs 0 (drop k slots)) e in (
       ap (λ s. set s j held) before ∙ turn_fills held n j slots inside empty (omega (arith, inv.1, above, c.if-left-eq0.false)),
-      omega (arith, inv.1, above, occurs_drop_more 0 slots j inside, is_same (get_or slots j 0) 0 empty),
+      omega (arith, inv.1, above, occurs_drop_more 0 slots j inside, one_same (get_or slots j 0) 0 empty),
     )
 
 pub loop-i-preserved : goal.loop-i-preserved
@@ -49,7 +50,7 @@ loop-i-preserved c =
     let before = inv.0 ∙ ap (λ k. done_from held n k slots) e in
     let block : get_or slots j 0 ≡ 0 → ⊥ = λ z. c.if-slots-i-eq-EMPTY.false (ap (λ s. get_or s j 0) before ∙ next_slot held n j slots inside ∙ z) in (
       before ∙ turn_keeps held n j slots inside block,
-      omega (arith, inv.1, ap (λ k. occurs 0 (drop k slots)) e, occurs_drop_more 0 slots j inside, is_other (get_or slots j 0) 0 block),
+      omega (arith, inv.1, ap (λ k. occurs 0 (drop k slots)) e, occurs_drop_more 0 slots j inside, one_other (get_or slots j 0) 0 block),
     )
 
 pub returns : goal.returns

@@ -1,7 +1,7 @@
 use Rattle.std.proofs.Common.{◌≡◌, ℕ, eqb, ◌≢◌, refl, arith, rules, below_more}
 use Rattle.std.proofs.lemmas.Bool.{eq-eqb, ne_eqb, cond-true, cond-false}
 use Rattle.theory.specs.Rows as lent
-use Rattle.boards.specs.Boards.{only_at}
+use Rattle.theory.specs.Firing.{only_at}
 use Rattle.handover.proofs.piles.lay_out.Goals as goal
 
 elsewhere : (place p n : ℕ) → p ≢ place → only_at place p n ≡ 0

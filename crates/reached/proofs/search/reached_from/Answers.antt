@@ -17,7 +17,7 @@ pub loop-place-preserved : goal.loop-place-preserved
 loop-place-preserved c = (
   search_goes_on (has_at c.args.leads.now) (has c.args.first) (has c.loop-place.seen) (has c.loop-place.done) _ _
       c.loop-place.invariant.0 c.in-Some.place
-      (and_parts _ _ (sym (c.difference.ensures.answer c.in-Some.place) ∙ c.in-Some.ensures.cases.in_it)).0
+      (and_parts _ _ (sym (c.difference.ensures.answer c.in-Some.place) ∙ c.in-Some.ensures.cases.passes)).0
       c.with-done.ensures.answer
       (λ p. c.union-seen.ensures p
       ∙ ap (λ (v : ℕ). has c.loop-place.seen p || has v p)

@@ -2,7 +2,7 @@ use Rattle.std.proofs.Common.{◌≡◌, ℕ, get_or, replicate, refl, ⊎_elim,
 use lib.ListN.{length-replicate}
 use Rattle.std.proofs.lemmas.List.{get_or-replicate, get_or_past}
 use Rattle.std.proofs.lemmas.Bool.{cases_lt}
-use Rattle.slot_board.specs.Occurs.{occurs_zeros}
+use Rattle.slot_board.proofs.Occurring.{occurs_zeros}
 use Rattle.slot_board.proofs.SlotBoard.new.Goals as goal
 
 zeros : (n k : ℕ) → ◌≡◌ {A = ℕ} (get_or (replicate n 0) k 0) 0

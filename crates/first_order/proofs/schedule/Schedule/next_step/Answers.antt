@@ -6,7 +6,7 @@ use Rattle.first_order.proofs.schedule.Schedule.next_step.Goals as goal
 
 pub is_safe-requires-clause-ready : goal.is_safe-requires-clause-ready
 is_safe-requires-clause-ready c =
-    ap (λ set. has set c.in-Some.step) c.loop-step.invariant.0.ready ∙ c.loop-step.invariant.1 c.in-Some.step c.in-Some.ensures.steps.0.in_it
+    ap (λ set. has set c.in-Some.step) c.loop-step.invariant.0.ready ∙ c.loop-step.invariant.1 c.in-Some.step c.in-Some.ensures.steps.0.passes
 
 pub loop-step-preserved : goal.loop-step-preserved
 loop-step-preserved c =
@@ -30,7 +30,7 @@ returns-then-is_safe-clause-answer c N m x law h none =
     let s = c.args.self.now in
     let inv = c.loop-step.invariant in
     let first = c.in-Some.ensures.steps.0 in
-    let l : t < N.steps = a_step N m x s h t (inv.1 t first.in_it) in
+    let l : t < N.steps = a_step N m x s h t (inv.1 t first.passes) in
     least_safe N law m x s h (has c.loop-step.step-iterator.rest) (λ k j r e. sym ((inv.2 k r e).told N m x law h none j))
     t l (sym (c.if-is_safe.ensures.answer.told N m x law (shows_kept N m x s c.loop-step.self inv.0 h) none l)) first.least
 

@@ -1,11 +1,11 @@
 use Rattle.std.proofs.Common.{◌≡◌, ℕ, ◌<◌, ltb, List, get_or, replicate, ap, ◌∙◌, ⊎_elim, arith}
 use Rattle.std.proofs.lemmas.List.{get_or-replicate, get_or_past}
 use Rattle.std.proofs.lemmas.Bool.{cases_lt, lt-ltb, cond-true}
-use Rattle.boards.specs.Rows.{at_place}
+use Rattle.theory.specs.Rows.{at}
 use Rattle.layers.specs.Renamings.{renamed}
 use Rattle.handover.proofs.piles.SecondBoard.pile.Goals as goal
 
-zeros : (q : ℕ) → at_place (replicate 64 0) q ≡ 0
+zeros : (q : ℕ) → at (replicate 64 0) q ≡ 0
 zeros q = ⊎_elim (λ h. get_or-replicate 64 q 0 0 h) (λ h. get_or_past (replicate 64 0) q 0 h) (cases_lt q 64)
 
 -- an empty board stays empty under other names
@@ -16,6 +16,6 @@ pub returns : goal.returns
 returns c p h =
     let pile = c.load_names.new.pile in
     let below = c.load_names.ensures ∙ c.new-pile.ensures.below in
-    let empty : (q : ℕ) → at_place pile.below.below.counts q ≡ 0 =
-    λ q. ap (λ a. at_place a.below.counts q) below ∙ ap (λ b. at_place b.counts q) c.new.ensures.below ∙ c.in_ok-load.ensures.answer.counts_given q ∙ zeros q in
-    omega (arith, c.in_ok-lay_out.ensures p h, renamed_empty pile.row (at_place pile.below.below.counts) empty p h)
+    let empty : (q : ℕ) → at pile.below.below.counts q ≡ 0 =
+    λ q. ap (λ a. at a.below.counts q) below ∙ ap (λ b. at b.counts q) c.new.ensures.below ∙ c.in_ok-load.ensures.answer.counts_given q ∙ zeros q in
+    omega (arith, c.in_ok-lay_out.ensures p h, renamed_empty pile.row (at pile.below.below.counts) empty p h)

@@ -3,7 +3,7 @@ use Rattle.std.specs.Prelude.{◌≡◌, ℕ, zero, suc, ◌*◌, ◌<◌, ◌�
 use Rattle.std.proofs.Common.{sym, ap, ◌∙◌, ⊎_elim, arith, mul-one, mul-add, mul-zero}
 use Rattle.std.proofs.lemmas.Bool.{cases_eq}
 use Rattle.theory.specs.Sums.{sum_to}
-use Rattle.boards.specs.Boards.{only_at}
+use Rattle.theory.specs.Firing.{only_at}
 use Rattle.boards.proofs.AtPlace.{at_same, at_other}
 use Rattle.theory.proofs.SumLaws.{sum_to_same, sum_to_none, sum_to_mono, sum_to_swap}
 
