@@ -1,9 +1,11 @@
 -- What fire and resume answer: the refusal, or the order and what the sitting holds afterwards.
-use Rattle.std.specs.Prelude.{ℕ, ◌+◌, ◌-◌, Bool, if◌then◌else◌, not, ◌&&◌, List, [], ◌∷◌, ◌++◌, length, drop, Some, None, Option, Result, ◌==◌, nat_le, nat_lt}
+use Rattle.std.specs.Prelude.{ℕ, ◌+◌, ◌-◌, Bool, if◌then◌else◌, not, ◌&&◌, List, [], ◌∷◌}
+use Rattle.std.specs.Prelude.{◌++◌, length, drop, Some, None, Option, Result, ◌==◌, nat_le, nat_lt}
 use Rattle.std.specs.Option.{option_or, option_map}
 use Rattle.refusals.specs.Answered.{answered}
 use Rattle.refusals.specs.declared.Refusal.{Refusal}
-use Rattle.refusals.specs.declared.Refusal.TheVariants.{RowsUnfit, DoneLimit, OrderMemoryShort, SpareShort, Short, CutOff, Missed, NoSuchStep, InputEmpty}
+use Rattle.refusals.specs.declared.Refusal.TheVariants.{RowsUnfit, DoneLimit, OrderMemoryShort, SpareShort, Short}
+use Rattle.refusals.specs.declared.Refusal.TheVariants.{CutOff, Missed, NoSuchStep, InputEmpty}
 use Rattle.theory.specs.Nets.{NetMeaning}
 use Rattle.theory.specs.Rows.{at}
 use Rattle.theory.specs.Firing.{Marking, one_at, fired, after}

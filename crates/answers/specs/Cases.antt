@@ -1,7 +1,8 @@
 -- Worked cases: what each call answers and leaves, worked out by hand, and proved by one computed check.
 use Rattle.std.specs.Prelude.{◌≡◌, ℕ, List, [], ◌∷◌, map, pos, negsuc}
 use Rattle.refusals.specs.declared.Refusal.{Refusal}
-use Rattle.refusals.specs.declared.Refusal.TheVariants.{RowsUnfit, DoneLimit, OrderMemoryShort, SpareShort, Short, CutOff, Missed, NoSuchStep, InputEmpty, ListFull}
+use Rattle.refusals.specs.declared.Refusal.TheVariants.{RowsUnfit, DoneLimit, OrderMemoryShort, SpareShort, Short}
+use Rattle.refusals.specs.declared.Refusal.TheVariants.{CutOff, Missed, NoSuchStep, InputEmpty, ListFull}
 use Rattle.theory.specs.Nets.{NetMeaning}
 use Rattle.theory.specs.Rows.{at, row_of}
 use Rattle.theory.specs.Cases.{detour, doubler, lock, two_rings}
@@ -50,7 +51,8 @@ says_no net counts spare done call e = record {
 }
 
 -- or accepted, leaving these counts, spare and done counts
-abbrev pub says_yes : NetMeaning → List ℕ → ℕ → List ℕ → Call → Answer → List ℕ → ℕ → List ℕ → Case
+abbrev pub says_yes : NetMeaning → List ℕ → ℕ → List ℕ → Call → Answer → List ℕ →
+    ℕ → List ℕ → Case
 says_yes net counts spare done call answer counts' spare' done' = record {
   net = net;
   counts = counts;
@@ -80,29 +82,35 @@ missed p below = record { place = p; cause = cause.Missed (negsuc below) }
 
 abbrev pub the_detour_is_taken_first : Case
 the_detour_is_taken_first =
-    says_yes detour (1 ∷ 0 ∷ 0 ∷ []) 100 nothing_done (resume (1 ∷ 1 ∷ 1 ∷ []) (exact (0 ∷ 0 ∷ 1 ∷ [])) 10)
+    says_yes detour (1 ∷ 0 ∷ 0 ∷ []) 100 nothing_done
+    (resume (1 ∷ 1 ∷ 1 ∷ []) (exact (0 ∷ 0 ∷ 1 ∷ [])) 10)
     (order_written (1 ∷ 2 ∷ 0 ∷ [])) (0 ∷ 0 ∷ 1 ∷ []) 100 (1 ∷ 1 ∷ 1 ∷ [])
 
 abbrev pub a_short_place : Case
 a_short_place =
-    says_no detour (1 ∷ 0 ∷ 0 ∷ []) 100 nothing_done (resume (0 ∷ 1 ∷ 2 ∷ []) (at_least (0 ∷ 0 ∷ 0 ∷ [])) 10) (Short 1)
+    says_no detour (1 ∷ 0 ∷ 0 ∷ []) 100 nothing_done
+    (resume (0 ∷ 1 ∷ 2 ∷ []) (at_least (0 ∷ 0 ∷ 0 ∷ [])) 10) (Short 1)
 
 abbrev pub a_cut_off_place : Case
 a_cut_off_place =
-    says_no detour (0 ∷ 0 ∷ 1 ∷ []) 100 nothing_done (resume (0 ∷ 1 ∷ 1 ∷ []) (exact (0 ∷ 0 ∷ 1 ∷ [])) 10) (CutOff 0)
+    says_no detour (0 ∷ 0 ∷ 1 ∷ []) 100 nothing_done
+    (resume (0 ∷ 1 ∷ 1 ∷ []) (exact (0 ∷ 0 ∷ 1 ∷ [])) 10) (CutOff 0)
 
 abbrev pub nothing_asked : Case
 nothing_asked =
-    says_yes detour (0 ∷ 0 ∷ 0 ∷ []) 100 nothing_done (resume (0 ∷ 0 ∷ 0 ∷ []) (exact (0 ∷ 0 ∷ 0 ∷ [])) 10)
+    says_yes detour (0 ∷ 0 ∷ 0 ∷ []) 100 nothing_done
+    (resume (0 ∷ 0 ∷ 0 ∷ []) (exact (0 ∷ 0 ∷ 0 ∷ [])) 10)
     (order_written []) (0 ∷ 0 ∷ 0 ∷ []) 100 nothing_done
 
 abbrev pub a_missed_place : Case
 a_missed_place =
-    says_no detour (1 ∷ 0 ∷ 0 ∷ []) 100 nothing_done (resume (1 ∷ 1 ∷ 1 ∷ []) (exact (0 ∷ 0 ∷ 2 ∷ [])) 10) (Missed 2)
+    says_no detour (1 ∷ 0 ∷ 0 ∷ []) 100 nothing_done
+    (resume (1 ∷ 1 ∷ 1 ∷ []) (exact (0 ∷ 0 ∷ 2 ∷ [])) 10) (Missed 2)
 
 abbrev pub a_second_block : Case
 a_second_block =
-    says_yes detour (2 ∷ 0 ∷ 0 ∷ []) 100 nothing_done (resume (1 ∷ 1 ∷ 1 ∷ []) (exact (1 ∷ 0 ∷ 1 ∷ [])) 10)
+    says_yes detour (2 ∷ 0 ∷ 0 ∷ []) 100 nothing_done
+    (resume (1 ∷ 1 ∷ 1 ∷ []) (exact (1 ∷ 0 ∷ 1 ∷ [])) 10)
     (order_written (0 ∷ 1 ∷ 2 ∷ [])) (1 ∷ 0 ∷ 1 ∷ []) 100 (1 ∷ 1 ∷ 1 ∷ [])
 
 abbrev pub through_the_lock : Case
@@ -120,11 +128,13 @@ abbrev pub spare_one_too_small : Case
 spare_one_too_small = says_no doubler (1 ∷ []) 5 (0 ∷ []) (resume (3 ∷ []) (exact (4 ∷ [])) 10) SpareShort
 
 abbrev pub no_block_to_start_with : Case
-no_block_to_start_with = says_no doubler (0 ∷ []) 100 (0 ∷ []) (resume (1 ∷ []) (at_least (0 ∷ [])) 10) (CutOff 0)
+no_block_to_start_with = says_no doubler (0 ∷ []) 100 (0 ∷ [])
+    (resume (1 ∷ []) (at_least (0 ∷ [])) 10) (CutOff 0)
 
 abbrev pub a_survey_of_the_short_place : Case
 a_survey_of_the_short_place =
-    lists detour (1 ∷ 0 ∷ 0 ∷ []) (survey (0 ∷ 1 ∷ 2 ∷ []) (at_least (0 ∷ 0 ∷ 0 ∷ [])) 192) nothing_done
+    lists detour (1 ∷ 0 ∷ 0 ∷ []) (survey (0 ∷ 1 ∷ 2 ∷ []) (at_least (0 ∷ 0 ∷ 0 ∷ [])) 192)
+    nothing_done
     (short 1 0 ∷ missed 1 0 ∷ [])
 
 abbrev pub an_empty_input : Case
@@ -133,11 +143,13 @@ an_empty_input = says_no detour (0 ∷ 1 ∷ 0 ∷ []) 100 nothing_done (fire 0)
 -- JUST WITHIN A LIMIT, AND ONE PAST IT
 
 abbrev pub a_tally_too_short : Case
-a_tally_too_short = says_no detour (1 ∷ 0 ∷ 0 ∷ []) 100 nothing_done (resume (1 ∷ 1 ∷ []) (exact (0 ∷ 0 ∷ 1 ∷ [])) 10) RowsUnfit
+a_tally_too_short = says_no detour (1 ∷ 0 ∷ 0 ∷ []) 100 nothing_done
+    (resume (1 ∷ 1 ∷ []) (exact (0 ∷ 0 ∷ 1 ∷ [])) 10) RowsUnfit
 
 abbrev pub a_target_too_long : Case
 a_target_too_long =
-    says_no detour (1 ∷ 0 ∷ 0 ∷ []) 100 nothing_done (resume (1 ∷ 1 ∷ 1 ∷ []) (exact (0 ∷ 0 ∷ 1 ∷ 0 ∷ [])) 10) RowsUnfit
+    says_no detour (1 ∷ 0 ∷ 0 ∷ []) 100 nothing_done
+    (resume (1 ∷ 1 ∷ 1 ∷ []) (exact (0 ∷ 0 ∷ 1 ∷ 0 ∷ [])) 10) RowsUnfit
 
 abbrev pub an_unknown_kind : Case
 an_unknown_kind =
@@ -146,21 +158,25 @@ an_unknown_kind =
 
 abbrev pub a_total_of_65535 : Case
 a_total_of_65535 =
-    says_yes detour (1 ∷ 0 ∷ 0 ∷ []) 100 (65532 ∷ 0 ∷ 0 ∷ []) (resume (1 ∷ 1 ∷ 1 ∷ []) (exact (0 ∷ 0 ∷ 1 ∷ [])) 10)
+    says_yes detour (1 ∷ 0 ∷ 0 ∷ []) 100 (65532 ∷ 0 ∷ 0 ∷ [])
+    (resume (1 ∷ 1 ∷ 1 ∷ []) (exact (0 ∷ 0 ∷ 1 ∷ [])) 10)
     (order_written (1 ∷ 2 ∷ 0 ∷ [])) (0 ∷ 0 ∷ 1 ∷ []) 100 (65533 ∷ 1 ∷ 1 ∷ [])
 
 abbrev pub a_total_of_65536 : Case
 a_total_of_65536 =
-    says_no detour (1 ∷ 0 ∷ 0 ∷ []) 100 (65533 ∷ 0 ∷ 0 ∷ []) (resume (1 ∷ 1 ∷ 1 ∷ []) (exact (0 ∷ 0 ∷ 1 ∷ [])) 10) DoneLimit
+    says_no detour (1 ∷ 0 ∷ 0 ∷ []) 100 (65533 ∷ 0 ∷ 0 ∷ [])
+    (resume (1 ∷ 1 ∷ 1 ∷ []) (exact (0 ∷ 0 ∷ 1 ∷ [])) 10) DoneLimit
 
 abbrev pub memory_just_enough : Case
 memory_just_enough =
-    says_yes detour (1 ∷ 0 ∷ 0 ∷ []) 3 nothing_done (resume (1 ∷ 1 ∷ 1 ∷ []) (exact (0 ∷ 0 ∷ 1 ∷ [])) 3)
+    says_yes detour (1 ∷ 0 ∷ 0 ∷ []) 3 nothing_done
+    (resume (1 ∷ 1 ∷ 1 ∷ []) (exact (0 ∷ 0 ∷ 1 ∷ [])) 3)
     (order_written (1 ∷ 2 ∷ 0 ∷ [])) (0 ∷ 0 ∷ 1 ∷ []) 3 (1 ∷ 1 ∷ 1 ∷ [])
 
 abbrev pub memory_one_too_short : Case
 memory_one_too_short =
-    says_no detour (1 ∷ 0 ∷ 0 ∷ []) 0 nothing_done (resume (1 ∷ 1 ∷ 1 ∷ []) (exact (0 ∷ 0 ∷ 1 ∷ [])) 2) OrderMemoryShort
+    says_no detour (1 ∷ 0 ∷ 0 ∷ []) 0 nothing_done
+    (resume (1 ∷ 1 ∷ 1 ∷ []) (exact (0 ∷ 0 ∷ 1 ∷ [])) 2) OrderMemoryShort
 
 abbrev pub no_such_step : Case
 no_such_step = says_no detour (1 ∷ 0 ∷ 0 ∷ []) 0 (65535 ∷ 0 ∷ 0 ∷ []) (fire 3) NoSuchStep
@@ -170,7 +186,8 @@ one_fire_too_many = says_no detour (0 ∷ 1 ∷ 0 ∷ []) 0 (65535 ∷ 0 ∷ 0 �
 
 abbrev pub the_last_fire : Case
 the_last_fire =
-    says_yes detour (1 ∷ 0 ∷ 0 ∷ []) 0 (65534 ∷ 0 ∷ 0 ∷ []) (fire 0) fired_once (0 ∷ 0 ∷ 1 ∷ []) 0 (65535 ∷ 0 ∷ 0 ∷ [])
+    says_yes detour (1 ∷ 0 ∷ 0 ∷ []) 0 (65534 ∷ 0 ∷ 0 ∷ []) (fire 0) fired_once
+    (0 ∷ 0 ∷ 1 ∷ []) 0 (65535 ∷ 0 ∷ 0 ∷ [])
 
 abbrev pub the_block_taken_makes_room : Case
 the_block_taken_makes_room = says_yes doubler (1 ∷ []) 1 (0 ∷ []) (fire 0) fired_once (2 ∷ []) 0 (1 ∷ [])
@@ -180,7 +197,8 @@ no_room_for_the_yields = says_no doubler (1 ∷ []) 0 (0 ∷ []) (fire 0) SpareS
 
 abbrev pub findings_memory_of_191 : Case
 findings_memory_of_191 =
-    says_no detour (1 ∷ 0 ∷ 0 ∷ []) 100 nothing_done (survey (0 ∷ 1 ∷ 2 ∷ []) (at_least (0 ∷ 0 ∷ 0 ∷ [])) 191) ListFull
+    says_no detour (1 ∷ 0 ∷ 0 ∷ []) 100 nothing_done
+    (survey (0 ∷ 1 ∷ 2 ∷ []) (at_least (0 ∷ 0 ∷ 0 ∷ [])) 191) ListFull
 
 abbrev pub three_groups_by_rising_place : Case
 three_groups_by_rising_place =
@@ -194,7 +212,8 @@ missed_from_above =
 
 abbrev pub nothing_to_find : Case
 nothing_to_find =
-    lists detour (1 ∷ 0 ∷ 0 ∷ []) (survey (1 ∷ 1 ∷ 1 ∷ []) (exact (0 ∷ 0 ∷ 1 ∷ [])) 192) nothing_done []
+    lists detour (1 ∷ 0 ∷ 0 ∷ []) (survey (1 ∷ 1 ∷ 1 ∷ []) (exact (0 ∷ 0 ∷ 1 ∷ [])) 192)
+    nothing_done []
 
 -- TWO THINGS WRONG AT ONCE
 
@@ -208,16 +227,19 @@ an_unknown_kind_and_too_many_steps =
 
 abbrev pub too_many_steps_and_little_memory : Case
 too_many_steps_and_little_memory =
-    says_no detour (1 ∷ 0 ∷ 0 ∷ []) 100 (65533 ∷ 0 ∷ 0 ∷ []) (resume (1 ∷ 1 ∷ 1 ∷ []) (exact (0 ∷ 0 ∷ 1 ∷ [])) 2) DoneLimit
+    says_no detour (1 ∷ 0 ∷ 0 ∷ []) 100 (65533 ∷ 0 ∷ 0 ∷ [])
+    (resume (1 ∷ 1 ∷ 1 ∷ []) (exact (0 ∷ 0 ∷ 1 ∷ [])) 2) DoneLimit
 
 abbrev pub little_spare_and_a_short_place : Case
 little_spare_and_a_short_place =
-    says_no detour (1 ∷ 0 ∷ 0 ∷ []) 2 nothing_done (resume (0 ∷ 1 ∷ 2 ∷ []) (at_least (0 ∷ 0 ∷ 0 ∷ [])) 10) SpareShort
+    says_no detour (1 ∷ 0 ∷ 0 ∷ []) 2 nothing_done
+    (resume (0 ∷ 1 ∷ 2 ∷ []) (at_least (0 ∷ 0 ∷ 0 ∷ [])) 10) SpareShort
 
 -- place 0 is cut off, place 1 is short and cut off
 abbrev pub a_short_place_behind_a_cut_off_one : Case
 a_short_place_behind_a_cut_off_one =
-    says_no detour (0 ∷ 0 ∷ 0 ∷ []) 100 nothing_done (resume (0 ∷ 0 ∷ 1 ∷ []) (exact (1 ∷ 0 ∷ 0 ∷ [])) 10) (Short 1)
+    says_no detour (0 ∷ 0 ∷ 0 ∷ []) 100 nothing_done
+    (resume (0 ∷ 0 ∷ 1 ∷ []) (exact (1 ∷ 0 ∷ 0 ∷ [])) 10) (Short 1)
 
 -- place 0 is missed, places 2 and 3 are cut off
 abbrev pub a_cut_off_place_behind_a_missed_one : Case
@@ -227,11 +249,13 @@ a_cut_off_place_behind_a_missed_one =
 
 abbrev pub a_survey_of_a_tally_too_short_and_too_many_steps : Case
 a_survey_of_a_tally_too_short_and_too_many_steps =
-    says_no detour (1 ∷ 0 ∷ 0 ∷ []) 100 (65535 ∷ 0 ∷ 0 ∷ []) (survey (0 ∷ 1 ∷ []) (at_least (0 ∷ 0 ∷ 0 ∷ [])) 192) RowsUnfit
+    says_no detour (1 ∷ 0 ∷ 0 ∷ []) 100 (65535 ∷ 0 ∷ 0 ∷ [])
+    (survey (0 ∷ 1 ∷ []) (at_least (0 ∷ 0 ∷ 0 ∷ [])) 192) RowsUnfit
 
 abbrev pub a_survey_of_too_many_steps_with_little_memory : Case
 a_survey_of_too_many_steps_with_little_memory =
-    says_no detour (1 ∷ 0 ∷ 0 ∷ []) 100 (65533 ∷ 0 ∷ 0 ∷ []) (survey (0 ∷ 1 ∷ 2 ∷ []) (at_least (0 ∷ 0 ∷ 0 ∷ [])) 191) DoneLimit
+    says_no detour (1 ∷ 0 ∷ 0 ∷ []) 100 (65533 ∷ 0 ∷ 0 ∷ [])
+    (survey (0 ∷ 1 ∷ 2 ∷ []) (at_least (0 ∷ 0 ∷ 0 ∷ [])) 191) DoneLimit
 
 abbrev pub cases : List Case
 cases =

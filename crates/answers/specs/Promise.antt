@@ -1,5 +1,6 @@
 -- The promise: what fire, resume and survey answer and leave, in any state and after every list of calls.
-use Rattle.std.specs.Prelude.{◌≡◌, ℕ, ◌+◌, ◌<◌, ◌≤◌, ◌⊎◌, ◌↔◌, List, [], ◌∷◌, ◌++◌, length, take, drop, Some, None, Ok, Err, Option, Result}
+use Rattle.std.specs.Prelude.{◌≡◌, ℕ, ◌+◌, ◌<◌, ◌≤◌, ◌⊎◌, ◌↔◌, List, [], ◌∷◌}
+use Rattle.std.specs.Prelude.{◌++◌, length, take, drop, Some, None, Ok, Err, Option, Result}
 use Rattle.refusals.specs.declared.Refusal.{Refusal}
 use Rattle.theory.specs.Sums.{sum_to}
 use Rattle.theory.specs.Nets.{NetMeaning, NetLaw}
@@ -10,9 +11,11 @@ use Rattle.theory.specs.Orders.{Earlier}
 use Rattle.theory.specs.Laws.{AgreeBelow}
 use Rattle.answers.specs.declared.Finding.{Finding}
 use Rattle.answers.specs.States.{State, New, new_on, Target, exact, done_total, done_limit, yields_asked}
-use Rattle.answers.specs.Answers.{fire_refusal, fire_answer, size_refusal, resume_refusal, the_order, resume_answer, order_memory}
+use Rattle.answers.specs.Answers.{fire_refusal, fire_answer, size_refusal, resume_refusal, the_order, resume_answer}
+use Rattle.answers.specs.Answers.{order_memory}
 use Rattle.answers.specs.Findings.{findings, survey_refusal, survey_answer, findings_memory}
-use Rattle.answers.specs.Calls.{Call, Answer, refusal_of, fired_by, after_call, answer_to, after_calls, answers_to, history, accepted_times, fires, order_yields}
+use Rattle.answers.specs.Calls.{Call, Answer, refusal_of, fired_by, after_call, answer_to, after_calls, answers_to}
+use Rattle.answers.specs.Calls.{history, accepted_times, fires, order_yields}
 use Rattle.answers.specs.Calls.Call.{fire, resume, survey}
 use Rattle.answers.specs.Calls.Answer.{refused, fired_once, order_written, findings_listed}
 use Rattle.answers.specs.Reasons.{FireFits, WhyFire, ResumeFits, WhyResume, Such, SurveyFits, WhySurvey, AllFound}
@@ -38,7 +41,8 @@ AllAccepted N s (c ∷ cs) = (refusal_of N s c ≡ None) × AllAccepted N (after
 -- an accepted resume is as a fire of each step of its order
 pub record AsFires (N : NetMeaning) (s : State) (tally : List ℕ) (target : Target) (memory : ℕ) : Type 0 where
   pub none_refused : AllAccepted N s (fires (the_order N s tally))
-  pub same_state : SameState (after_calls N s (fires (the_order N s tally))) (after_call N s (resume tally target memory))
+  pub same_state : SameState (after_calls N s (fires (the_order N s tally)))
+      (after_call N s (resume tally target memory))
 
 -- WHAT HOLDS IN ANY STATE
 
@@ -48,7 +52,8 @@ pub record InAnyState (N : NetMeaning) (s : State) : Type 0 where
   pub fires_exactly : (t : ℕ) → (fire_refusal N s t ≡ None) ↔ FireFits N s t
   pub fire_refused_for : (t : ℕ) (e : Refusal) → (fire_refusal N s t ≡ Some e) ↔ WhyFire N s t e
   -- where the sizes are right, a tally is accepted just if there is an order of it that ends as the target wants
-  pub accepts_exactly : (tally : List ℕ) (target : Target) (memory : ℕ) → size_refusal N s tally target memory ≡ None →
+  pub accepts_exactly : (tally : List ℕ) (target : Target) (memory : ℕ) →
+      size_refusal N s tally target memory ≡ None →
       (resume_refusal N s tally target memory ≡ None) ↔ ((order : List ℕ) × Such N s tally target order)
   -- with the sizes written out
   pub resumes_exactly : (tally : List ℕ) (target : Target) (memory : ℕ) →
@@ -57,21 +62,25 @@ pub record InAnyState (N : NetMeaning) (s : State) : Type 0 where
   pub resume_refused_for : (tally : List ℕ) (target : Target) (memory : ℕ) (e : Refusal) →
       (resume_refusal N s tally target memory ≡ Some e) ↔ WhyResume N s tally target memory e
   -- what an accepted resume writes is the lexicographically least of these orders
-  pub writes_the_first : (tally : List ℕ) (target : Target) (memory : ℕ) → resume_refusal N s tally target memory ≡ None →
+  pub writes_the_first : (tally : List ℕ) (target : Target) (memory : ℕ) →
+      resume_refusal N s tally target memory ≡ None →
       Such N s tally target (the_order N s tally)
       × ((other : List ℕ) → Such N s tally target other →
       (the_order N s tally ≡ other) ⊎ Earlier (the_order N s tally) other)
   -- how long the order is, and that fires of its steps would do the same
-  pub order_long : (tally : List ℕ) (target : Target) (memory : ℕ) → resume_refusal N s tally target memory ≡ None →
+  pub order_long : (tally : List ℕ) (target : Target) (memory : ℕ) →
+      resume_refusal N s tally target memory ≡ None →
       length (the_order N s tally) ≡ steps_asked N (at tally)
-  pub resumes_as_fires : (tally : List ℕ) (target : Target) (memory : ℕ) → resume_refusal N s tally target memory ≡ None →
+  pub resumes_as_fires : (tally : List ℕ) (target : Target) (memory : ℕ) →
+      resume_refusal N s tally target memory ≡ None →
       AsFires N s tally target memory
   -- a survey is accepted where its sizes are right, and then leaves nothing out and makes nothing up
   pub surveys_exactly : (tally : List ℕ) (target : Target) (memory : ℕ) →
       (survey_refusal N s tally target memory ≡ None) ↔ SurveyFits N s tally target memory
   pub survey_refused_for : (tally : List ℕ) (target : Target) (memory : ℕ) (e : Refusal) →
       (survey_refusal N s tally target memory ≡ Some e) ↔ WhySurvey N s tally target memory e
-  pub finds_all : (tally : List ℕ) (target : Target) (memory : ℕ) → survey_refusal N s tally target memory ≡ None →
+  pub finds_all : (tally : List ℕ) (target : Target) (memory : ℕ) →
+      survey_refusal N s tally target memory ≡ None →
       AllFound N s.counts (at tally) target (findings N s.counts (at tally) target)
 
 -- WHAT HOLDS AFTER EVERY LIST OF CALLS
@@ -99,7 +108,8 @@ pub record HandOver (N : NetMeaning) (start now other : State) (tally numbers : 
 
 -- the take-over works: one resume brings the new sitting to where the old one is, counters too; if one of the boards
 -- had more spare at the start, it has as much more at the end
-pub record ReplayedOn (N : NetMeaning) (start now other : State) (tally numbers : List ℕ) (memory : ℕ) : Type 0 where
+pub record ReplayedOn (N : NetMeaning) (start now other : State) (tally numbers : List ℕ)
+    (memory : ℕ) : Type 0 where
   pub accepted : resume_refusal N other tally (exact numbers) memory ≡ None
   pub counts : AgreeBelow N.places (after_call N other (resume tally (exact numbers) memory)).counts now.counts
   pub spare : (after_call N other (resume tally (exact numbers) memory)).spare + start.spare ≡ now.spare + other.spare
@@ -111,14 +121,15 @@ pub record AfterCalls (N : NetMeaning) (start : State) (calls : List Call) : Typ
   pub transcript : Transcript N start calls (answers_to N start calls)
   -- the counters stand for accepted calls alone: a fire adds 1 to its step's, a resume adds its tally
   pub counts_accepted_work : (t : ℕ) → (after_calls N start calls).done t ≡ accepted_times N start calls t
-  -- the steps fired so far, in their order, lead from the start to what the sitting holds; their counts are the done row
+  -- the steps fired so far, in their order, lead from the start to where the sitting is; their counts are the done row
   pub history_leads : Leads N (history N start calls) start (after_calls N start calls)
   pub history_counts : Realizes N start.counts (after_calls N start calls).done (history N start calls)
   -- the done total stays within its limit, and only steps of the net are done
   pub within_the_limit : done_total (after_calls N start calls) ≤ done_limit
   pub only_its_steps : (t : ℕ) → N.steps ≤ t → (after_calls N start calls).done t ≡ 0
   -- the board keeps its size: blocks on it and blocks that still fit, together; places past the net's stay as they are
-  pub blocks_stay : sum_to (after_calls N start calls).counts 64 + (after_calls N start calls).spare ≡ sum_to start.counts 64 + start.spare
+  pub blocks_stay : sum_to (after_calls N start calls).counts 64 + (after_calls N start calls).spare
+      ≡ sum_to start.counts 64 + start.spare
   pub outside_stays : (p : ℕ) → N.places ≤ p → (after_calls N start calls).counts p ≡ start.counts p
   -- whoever takes over from the counters alone gets as far
   pub replays : (other : State) (tally numbers : List ℕ) (memory : ℕ) →
@@ -145,27 +156,34 @@ pub record ToldAndLeft (N : NetMeaning) (s : State) : Type 0 where
   -- the answer of each call: its refusal, or else nothing, the length of its order, or of its list of findings
   pub fire_says : (t : ℕ) → Says (fire_refusal N s t) tt (fire_answer N s t)
   pub resume_says : (tally : List ℕ) (target : Target) (memory : ℕ) →
-      Says (resume_refusal N s tally target memory) (length (the_order N s tally)) (resume_answer N s tally target memory)
+      Says (resume_refusal N s tally target memory) (length (the_order N s tally))
+      (resume_answer N s tally target memory)
   pub survey_says : (tally : List ℕ) (target : Target) (memory : ℕ) →
-      Says (survey_refusal N s tally target memory) (length (findings N s.counts (at tally) target)) (survey_answer N s tally target memory)
+      Says (survey_refusal N s tally target memory) (length (findings N s.counts (at tally) target))
+      (survey_answer N s tally target memory)
   -- the memory that was lent to it
   pub resume_writes : (tally : List ℕ) (target : Target) (memory : List ℕ) →
-      Writes (resume_refusal N s tally target (length memory)) (the_order N s tally) memory (order_memory N s tally target memory)
+      Writes (resume_refusal N s tally target (length memory)) (the_order N s tally) memory
+      (order_memory N s tally target memory)
   pub survey_writes : (tally : List ℕ) (target : Target) (memory : List Finding) →
       Writes (survey_refusal N s tally target (length memory)) (findings N s.counts (at tally) target) memory
       (findings_memory N s tally target memory)
   -- it leaves what the steps that it fired give: its step, its order, or none
   pub leaves_what_it_fired : (c : Call) → Leads N (fired_by N s c) s (after_call N s c)
   pub fire_fires : (t : ℕ) → fire_refusal N s t ≡ None → fired_by N s (fire t) ≡ t ∷ []
-  pub resume_fires : (tally : List ℕ) (target : Target) (memory : ℕ) → resume_refusal N s tally target memory ≡ None →
+  pub resume_fires : (tally : List ℕ) (target : Target) (memory : ℕ) →
+      resume_refusal N s tally target memory ≡ None →
       fired_by N s (resume tally target memory) ≡ the_order N s tally
-  pub survey_fires_none : (tally : List ℕ) (target : Target) (memory : ℕ) → fired_by N s (survey tally target memory) ≡ []
+  pub survey_fires_none : (tally : List ℕ) (target : Target) (memory : ℕ) →
+      fired_by N s (survey tally target memory) ≡ []
   pub refused_fires_none : (c : Call) (e : Refusal) → refusal_of N s c ≡ Some e → fired_by N s c ≡ []
   -- what the transcript has of it
   pub fire_told : (t : ℕ) → fire_refusal N s t ≡ None → answer_to N s (fire t) ≡ fired_once
-  pub resume_told : (tally : List ℕ) (target : Target) (memory : ℕ) → resume_refusal N s tally target memory ≡ None →
+  pub resume_told : (tally : List ℕ) (target : Target) (memory : ℕ) →
+      resume_refusal N s tally target memory ≡ None →
       answer_to N s (resume tally target memory) ≡ order_written (the_order N s tally)
-  pub survey_told : (tally : List ℕ) (target : Target) (memory : ℕ) → survey_refusal N s tally target memory ≡ None →
+  pub survey_told : (tally : List ℕ) (target : Target) (memory : ℕ) →
+      survey_refusal N s tally target memory ≡ None →
       answer_to N s (survey tally target memory) ≡ findings_listed (findings N s.counts (at tally) target)
   pub refusal_told : (c : Call) (e : Refusal) → refusal_of N s c ≡ Some e → answer_to N s c ≡ refused e
 
@@ -183,6 +201,7 @@ pub record NewOn (counts : Marking) (spare : ℕ) (s : State) : Type 0 where
 -- sitting, what a call tells and leaves, and for every board what a new sitting holds
 pub record Promise : Type 0 where
   pub in_any_state : (N : NetMeaning) → NetLaw N → (s : State) → InAnyState N s
-  pub after_any_calls : (N : NetMeaning) → NetLaw N → (start : State) → New start → (calls : List Call) → AfterCalls N start calls
+  pub after_any_calls : (N : NetMeaning) → NetLaw N → (start : State) → New start →
+      (calls : List Call) → AfterCalls N start calls
   pub told_and_left : (N : NetMeaning) → NetLaw N → (s : State) → ToldAndLeft N s
   pub new_sittings : (counts : Marking) (spare : ℕ) → NewOn counts spare (new_on counts spare)

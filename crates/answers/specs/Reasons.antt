@@ -1,8 +1,10 @@
 -- When each call is accepted, and why it is refused, as conditions on the net, the marking and the sizes.
-use Rattle.std.specs.Prelude.{◌≡◌, ℕ, ◌+◌, ◌<◌, ◌≤◌, ◌⊎◌, ◌↔◌, List, [], ◌∷◌, ◌++◌, map, length, Contains, ℤ, pos, ◌+ℤ◌, ◌<ℤ◌, ◌≢◌}
+use Rattle.std.specs.Prelude.{◌≡◌, ℕ, ◌+◌, ◌<◌, ◌≤◌, ◌⊎◌, ◌↔◌, List, [], ◌∷◌}
+use Rattle.std.specs.Prelude.{◌++◌, map, length, Contains, ℤ, pos, ◌+ℤ◌, ◌<ℤ◌, ◌≢◌}
 use Rattle.std.specs.List.Sorted.{IsStrictlyIncreasing}
 use Rattle.refusals.specs.declared.Refusal.{Refusal}
-use Rattle.refusals.specs.declared.Refusal.TheVariants.{RowsUnfit, DoneLimit, OrderMemoryShort, SpareShort, Short, CutOff, Missed, NoSuchStep, InputEmpty, ListFull}
+use Rattle.refusals.specs.declared.Refusal.TheVariants.{RowsUnfit, DoneLimit, OrderMemoryShort, SpareShort, Short}
+use Rattle.refusals.specs.declared.Refusal.TheVariants.{CutOff, Missed, NoSuchStep, InputEmpty, ListFull}
 use Rattle.theory.specs.Nets.{NetMeaning}
 use Rattle.theory.specs.Rows.{at}
 use Rattle.theory.specs.Firing.{Marking, after}
@@ -80,10 +82,12 @@ pub record LeastMissed (N : NetMeaning) (m : Marking) (x : Tally) (target : Targ
   pub inside : p < N.places
   pub can_be_done : Realizable N m x
   pub misses : (order : List ℕ) → Realizes N m x order → Misses target (after N m order) p
-  pub least : (order : List ℕ) → Realizes N m x order → (q : ℕ) → q < p → Misses target (after N m order) q → ⊥
+  pub least : (order : List ℕ) → Realizes N m x order → (q : ℕ) → q < p →
+      Misses target (after N m order) q → ⊥
 
 -- why a resume is refused: the first of four sizes that does not fit, else the least place that stands in the way
-pub data WhyResume (N : NetMeaning) (s : State) (tally : List ℕ) (target : Target) (memory : ℕ) : Refusal → Type 0 where
+pub data WhyResume (N : NetMeaning) (s : State) (tally : List ℕ) (target : Target)
+    (memory : ℕ) : Refusal → Type 0 where
   rows_unfit : (RowsFit N tally target → ⊥) → WhyResume N s tally target memory RowsUnfit
   limit_reached : RowsFit N tally target → done_limit < done_total s + steps_asked N (at tally) →
       WhyResume N s tally target memory DoneLimit
@@ -108,7 +112,8 @@ pub record SurveyFits (N : NetMeaning) (s : State) (tally : List ℕ) (target : 
   pub memory_holds : findings_needed ≤ memory
 
 -- why a survey is refused: the first of three that applies
-pub data WhySurvey (N : NetMeaning) (s : State) (tally : List ℕ) (target : Target) (memory : ℕ) : Refusal → Type 0 where
+pub data WhySurvey (N : NetMeaning) (s : State) (tally : List ℕ) (target : Target)
+    (memory : ℕ) : Refusal → Type 0 where
   rows_unfit : (RowsFit N tally target → ⊥) → WhySurvey N s tally target memory RowsUnfit
   limit_reached : RowsFit N tally target → done_limit < done_total s + steps_asked N (at tally) →
       WhySurvey N s tally target memory DoneLimit

@@ -41,7 +41,9 @@ impl TryFrom<u8> for Kind {
 impl Kind {
     /// The kind by which places are compared for any byte: each but 0 asks for at least.
     pub fn compared_by(byte: u8) -> Kind
-        ensures { (N : NetMeaning) (m : Marking) (x : Tally) (numbers : List ℕ) (p : ℕ) → is_missed N m x (target_with numbers result) p ≡ is_missed N m x (record { numbers = numbers; kind = byte }) p }
+        ensures { (N : NetMeaning) (m : Marking) (x : Tally) (numbers : List ℕ) (p : ℕ) →
+            is_missed N m x (target_with numbers result) p
+            ≡ is_missed N m x (record { numbers = numbers; kind = byte }) p }
     {
         match byte {
             0 => Kind::Exact,

@@ -21,9 +21,11 @@ CallSays (Count place) counts spare answer counts' spare' =
 CallSays Spare counts spare answer counts' spare' =
     (answer ≡ Number spare) × Unchanged counts spare counts' spare'
 CallSays (Take place) counts spare answer counts' spare' =
-    AcceptedOr answer (Taken place counts spare counts' spare') (λ e. TakeRefused place counts e × Unchanged counts spare counts' spare')
+    AcceptedOr answer (Taken place counts spare counts' spare') (λ e. TakeRefused place counts e
+    × Unchanged counts spare counts' spare')
 CallSays (PutCall place n) counts spare answer counts' spare' =
-    AcceptedOr answer (Put place n counts spare counts' spare') (λ e. PutRefused place n spare e × Unchanged counts spare counts' spare')
+    AcceptedOr answer (Put place n counts spare counts' spare') (λ e. PutRefused place n spare e
+    × Unchanged counts spare counts' spare')
 
 -- the answer of a take, a put or a load
 abbrev pub call_answer : {X : Type 0} → Result X Refusal → Answer

@@ -28,7 +28,8 @@ pub enum Answer {
 
 /// Makes the call on the board.
 pub fn perform<B: Board>(board: &mut B, call: Call) -> Answer
-    ensures answer { CallSays call (B.counts board.old) (B.spare board.old) result (B.counts board.new) (B.spare board.new) }
+    ensures answer { CallSays call (B.counts board.old) (B.spare board.old) result (B.counts board.new)
+        (B.spare board.new) }
 {
     match call {
         Call::Count(place) => Answer::Number(board.count(place)),

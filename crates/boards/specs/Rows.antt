@@ -18,7 +18,8 @@ pub record LoadRefused (row : List ℕ) (spare : ℕ) (e : Refusal) : Type 0 whe
   pub named : e ≡ BoardRowUnfit
 
 -- what load answers, from the counts and spare before it to those after it
-abbrev pub LoadSays : {X : Type 0} → List ℕ → ℕ → (ℕ → ℕ) → ℕ → Result X Refusal → (ℕ → ℕ) → ℕ → Type 0
+abbrev pub LoadSays : {X : Type 0} → List ℕ → ℕ → (ℕ → ℕ) → ℕ → Result X Refusal →
+    (ℕ → ℕ) → ℕ → Type 0
 LoadSays row given counts spare (Ok x) counts' spare' = Loaded row given counts' spare'
 LoadSays row given counts spare (Err e) counts' spare' =
     LoadRefused row given e × Unchanged counts spare counts' spare'

@@ -28,7 +28,8 @@ pub const BOARD_LIMIT: u32 = 2_147_483_647;
 
 /// The number raised by `more` and then lowered by `fewer`; none where one of the two is no `u32`.
 pub fn raised_and_lowered(number: u32, more: u32, fewer: u32) -> Option<u32>
-    ensures answer { MatchOption result ((4294967295 < number + more) ⊎ (number + more < fewer)) (λ n. n + fewer ≡ number + more) }
+    ensures answer { MatchOption result ((4294967295 < number + more)
+        ⊎ (number + more < fewer)) (λ n. n + fewer ≡ number + more) }
 {
     number.checked_add(more)?.checked_sub(fewer)
 }
@@ -67,7 +68,8 @@ pub trait Board {
         all_taken: u32,
         all_put: u32,
     ) -> bool
-        ensures answer { MoveAllSays (at taken.now) (at put.now) all_taken all_put (counts self.old) (spare self.old) result (counts self.new) (spare self.new) }
+        ensures answer { MoveAllSays (at taken.now) (at put.now) all_taken all_put (counts self.old)
+            (spare self.old) result (counts self.new) (spare self.new) }
     {
         false
     }

@@ -1,5 +1,6 @@
 -- What the calls of a bounded list say, over the memory that it was lent and its length.
-use Rattle.std.specs.Prelude.{◌≡◌, ℕ, ◌+◌, ◌<◌, ◌≤◌, List, ◌++◌, length, take, drop, Some, None, Ok, Err, Option, Result, slice_index_or, slice_set}
+use Rattle.std.specs.Prelude.{◌≡◌, ℕ, ◌+◌, ◌<◌, ◌≤◌, List, ◌++◌, length, take, drop, Some}
+use Rattle.std.specs.Prelude.{None, Ok, Err, Option, Result, slice_index_or, slice_set}
 use Rattle.std.specs.Borrow.{Bor}
 use Rattle.refusals.specs.declared.Refusal.{Refusal}
 use Rattle.refusals.specs.declared.Refusal.TheVariants.{ListFull}
@@ -34,9 +35,12 @@ pub record Extended {T : Type 0} (items before : List T) (n : ℕ) (after : List
   pub len : n' ≡ n + length items
 
 -- what an add of all that is found leaves; it asks for an entry for each number, found or not
-abbrev pub AddsFound : {X T : Type 0} → (ℕ → Option T) → ℕ → List T → ℕ → Result X Refusal → List T → ℕ → Type 0
-AddsFound at end before n (Ok u) after n' = (n + end ≤ length before) × Extended (found_below at end) before n after n'
-AddsFound at end before n (Err e) after n' = (length before < n + end) × (e ≡ ListFull) × (after ≡ before) × (n' ≡ n)
+abbrev pub AddsFound : {X T : Type 0} → (ℕ → Option T) → ℕ → List T → ℕ →
+    Result X Refusal → List T → ℕ → Type 0
+AddsFound at end before n (Ok u) after n' = (n + end ≤ length before)
+    × Extended (found_below at end) before n after n'
+AddsFound at end before n (Err e) after n' = (length before < n + end) × (e ≡ ListFull)
+    × (after ≡ before) × (n' ≡ n)
 
 -- what a whole row written through a list leaves to the lender: the row, and behind it what was there
 abbrev pub WritesRow : {T : Type 0} → List T → List T → Result ℕ Refusal → List T → Type 0

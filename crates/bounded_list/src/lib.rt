@@ -73,7 +73,8 @@ pub fn add_found<T: Drop, F: Fn(u16) -> Option<T>>(
 ) -> Result<(), Refusal>
     requires { (k : ℕ) → k < end → F.pre find k }
     ensures lender { list.new.memory.ghost_name ≡ list.old.memory.ghost_name }
-    ensures adds { (at : ℕ → Option T) → ((k : ℕ) (r : Option T) → k < end → F.post find k r → r ≡ at k) → AddsFound at end list.old.memory.now list.old.len result list.new.memory.now list.new.len }
+    ensures adds { (at : ℕ → Option T) → ((k : ℕ) (r : Option T) → k < end → F.post find k r →
+        r ≡ at k) → AddsFound at end list.old.memory.now list.old.len result list.new.memory.now list.new.len }
 {
     if list.room() < usize::from(end) {
         return Err(Refusal::ListFull);

@@ -40,7 +40,8 @@ pub extern "C" fn zaldrum_resume(
     kind: u8,
     order: &mut [u16],
 ) -> Answer
-    ensures resumed { (r : Result ℕ Refusal) × (AnswerSays r result × NewResumed file.now counts.now spare tally.now (target_of numbers.now kind) order.old r order.new) }
+    ensures resumed { (r : Result ℕ Refusal) × (AnswerSays r result
+        × NewResumed file.now counts.now spare tally.now (target_of numbers.now kind) order.old r order.new) }
 {
     let target = Target { numbers, kind };
     answer_of(resume_new(file, counts, spare, tally, target, order))

@@ -1,5 +1,6 @@
 -- A name or a text on one line: what is written of it, and the bytes that this stands for.
-use Rattle.std.specs.Prelude.{ℕ, ◌-◌, ◌/◌, ◌%◌, codes, Bool, ◌&&◌, ◌==◌, nat_le, if◌then◌else◌, List, [], ◌∷◌, ◌++◌, flat_map, encode_utf8}
+use Rattle.std.specs.Prelude.{ℕ, ◌-◌, ◌/◌, ◌%◌, codes, Bool, ◌&&◌, ◌==◌, nat_le}
+use Rattle.std.specs.Prelude.{if◌then◌else◌, List, [], ◌∷◌, ◌++◌, flat_map, encode_utf8}
 use Rattle.std.specs.List.{list_any}
 use Rattle.std.specs.Str.{chars, is_utf8}
 use Rattle.std.specs.Char.{digit_char}
@@ -9,7 +10,8 @@ use Rattle.command_line.specs.declared.names.TheConstants.{HIDDEN}
 abbrev pub byte_shown : ℕ → List ℕ
 byte_shown b =
     if b == 10 then codes "\\n" else (if b == 9 then codes "\\t" else (if b == 92 then codes "\\\\" else
-    (if nat_le 32 b && nat_le b 126 then b ∷ [] else codes "\\x" ++ digit_char (b / 16) ∷ digit_char (b % 16) ∷ [])))
+    (if nat_le 32 b && nat_le b 126 then b ∷ [] else codes "\\x" ++ digit_char (b / 16)
+    ∷ digit_char (b % 16) ∷ [])))
 
 -- a character that takes a line's end or a direction, or that nobody sees
 abbrev pub is_hidden : ℕ → Bool

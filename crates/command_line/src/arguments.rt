@@ -48,7 +48,8 @@ pub fn words<R: Env + AllocGlobal>(rt: &R, program: &str) -> Result<Vec<String>,
 /// What each word names.
 fn named(alloc: Global, names: &[&str]) -> Result<Vec<Source>, AllocError>
     ensures count { IfOk result (λ all. length all.items ≡ length names.now) }
-    ensures shown { IfOk result (λ all. (k : ℕ) (name : _) (source : _) → k < length names.now → IsShownAs (slice_index_or names.now k name).now (slice_index_or all.items k source)) }
+    ensures shown { IfOk result (λ all. (k : ℕ) (name : _) (source : _) → k < length names.now →
+        IsShownAs (slice_index_or names.now k name).now (slice_index_or all.items k source)) }
 {
     names
         .iter()
@@ -60,7 +61,8 @@ fn named(alloc: Global, names: &[&str]) -> Result<Vec<Source>, AllocError>
 /// is left to read then.
 pub fn sources(alloc: Global, names: &[&str]) -> Result<Vec<Source>, Failure>
     ensures count { IfOk result (λ all. length all.items ≡ length names.now) }
-    ensures shown { IfOk result (λ all. (k : ℕ) (name : _) (source : _) → k < length names.now → IsShownAs (slice_index_or names.now k name).now (slice_index_or all.items k source)) }
+    ensures shown { IfOk result (λ all. (k : ℕ) (name : _) (source : _) → k < length names.now →
+        IsShownAs (slice_index_or names.now k name).now (slice_index_or all.items k source)) }
 {
     if names.iter().filter(|name| **name == "-").count() > 1 {
         return Err(Failure::InputTwice);
@@ -70,7 +72,8 @@ pub fn sources(alloc: Global, names: &[&str]) -> Result<Vec<Source>, Failure>
 
 /// What a word of a command line names; standard input where there is none.
 pub fn only_source(alloc: Global, word: Option<&str>) -> Result<Source, AllocError>
-    ensures { IfOk result (λ source. MatchOption word.entry (source.opened ≡ Opened.Input) (λ name. IsShownAs name.now source)) }
+    ensures { IfOk result (λ source. MatchOption word.entry (source.opened
+        ≡ Opened.Input) (λ name. IsShownAs name.now source)) }
 {
     match word {
         Some(word) => Source::of_word(alloc, word),

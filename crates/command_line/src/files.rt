@@ -1,6 +1,7 @@
 //! Files that a user names, standard input among them: what is read of one, how much, and what is said where it
 //! cannot be read.
-ghost use Rattle.std.specs.Prelude.{◌≡◌, ◌≢◌, ◌≤◌, IfOk, IfSome, take, string_bytes, vec_len, codes, MatchResult};
+ghost use Rattle.std.specs.Prelude.{◌≡◌, ◌≢◌, ◌≤◌, IfOk, IfSome, take, string_bytes, vec_len};
+ghost use Rattle.std.specs.Prelude.{codes, MatchResult};
 ghost use Rattle.command_line.specs.Names.{one_line};
 ghost use Rattle.command_line.specs.Files.{Opens, IsShownAs};
 ghost use Rattle.std.specs.Str.{IsUtf8};

@@ -6,7 +6,8 @@ use Rattle.comparisons.specs.Counted.{count_at}
 use Rattle.comparisons.specs.declared.outcomes.Outcomes.{Outcomes}
 
 abbrev pub shown_outcomes : Outcomes → List ℕ
-shown_outcomes outcomes = decimal outcomes.accepted ++ (codes " accepted, " ++ (decimal outcomes.refused ++ codes " refused"))
+shown_outcomes outcomes = decimal outcomes.accepted
+    ++ (codes " accepted, " ++ (decimal outcomes.refused ++ codes " refused"))
 
 -- the line of a refusal's number, with how many calls were refused with it
 abbrev pub count_line : ℕ → ℕ → List ℕ

@@ -4,5 +4,7 @@ use Rattle.std.specs.Prelude.{◌≡◌, ◌≢◌, ◌≤◌, ℕ, List, [], �
 -- none in it, all of it is asked, and there is no answer
 abbrev pub HasSides : List ℕ → List ℕ → List ℕ → Type 0
 HasSides text asked expected =
-    ((text ≡ asked ++ (codes " = " ++ expected)) × ((before after : List ℕ) → text ≡ before ++ (codes " = " ++ after) → length asked ≤ length before))
-    ⊎ (((before after : List ℕ) → text ≢ before ++ (codes " = " ++ after)) × (asked ≡ text) × (expected ≡ []))
+    ((text ≡ asked ++ (codes " = " ++ expected)) × ((before after : List ℕ) →
+    text ≡ before ++ (codes " = " ++ after) → length asked ≤ length before))
+    ⊎ (((before after : List ℕ) → text ≢ before ++ (codes " = " ++ after)) × (asked ≡ text)
+    × (expected ≡ []))

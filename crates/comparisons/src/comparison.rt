@@ -1,5 +1,6 @@
 //! The lines of a table, and how many of their answers agree.
-ghost use Rattle.std.specs.Prelude.{◌≡◌, ◌≢◌, ◌<◌, ◌≤◌, ◌+◌, ◌-◌, Ok, None, IfOk, IfSome, min, length, drop, [], ◌∷◌, true, false};
+ghost use Rattle.std.specs.Prelude.{◌≡◌, ◌≢◌, ◌<◌, ◌≤◌, ◌+◌, ◌-◌, Ok, None, IfOk};
+ghost use Rattle.std.specs.Prelude.{IfSome, min, length, drop, [], ◌∷◌, true, false};
 ghost use Rattle.comparisons.specs.Counted.{one_more};
 ghost use Rattle.comparisons.specs.Sides.{HasSides};
 
@@ -12,7 +13,8 @@ pub struct Line<'a> {
 }
 
 impl<'a> From<&'a str> for Line<'a> {
-    ghost from_gives = { λ text line. (line.text.now ≡ text.now) × HasSides text.now line.asked.now line.expected.now };
+    ghost from_gives = { λ text line. (line.text.now ≡ text.now)
+        × HasSides text.now line.asked.now line.expected.now };
 
     /// The two sides of the first ` = `; no answer where there is none.
     fn from(text: &'a str) -> Line<'a> {
@@ -51,9 +53,12 @@ pub fn compare_all<'a, E: Drop, F: FnMut(&Line<'a>, &'a [Line<'a>]) -> Result<Op
     mut compare: F,
 ) -> Result<usize, E>
     requires callable { F.IsAlwaysCallable compare }
-    requires fewer { (state : F) (line : _) (others : _) (r : _) (after : F) → F.step state line others r after → IfOk r (λ left. IfSome left (λ left. left ≤ length others.now)) }
+    requires fewer { (state : F) (line : _) (others : _) (r : _) (after : F) →
+        F.step state line others r after → IfOk r (λ left. IfSome left (λ left. left ≤ length others.now)) }
     ensures within { IfOk result (λ left. left ≤ length lines.now) }
-    ensures stopped { IfOk result (λ left. 0 < left → (state : F) × (line : _) × (others : _) × (after : F) × F.step state line others (Ok None) after × (drop (length lines.now - left) lines.now ≡ line.now ∷ others.now)) }
+    ensures stopped { IfOk result (λ left. 0 < left →
+        (state : F) × (line : _) × (others : _) × (after : F) × F.step state line others (Ok None) after
+        × (drop (length lines.now - left) lines.now ≡ line.now ∷ others.now)) }
 {
     // a count and no slice: the borrow checker does not cover a loop whose slice is what a call gave
     let mut left = lines.len();
@@ -69,8 +74,10 @@ pub fn compare_all<'a, E: Drop, F: FnMut(&Line<'a>, &'a [Line<'a>]) -> Result<Op
 impl Comparison {
     /// Counts a line of the table by whether the answer in it is the one here, and says whether it is.
     pub fn compare(&mut self, expected: &str, here: &str) -> bool
-        ensures agrees { here.now ≡ expected.now → (result ≡ true) × (self.new ≡ record self.old { agreed = one_more self.old.agreed }) }
-        ensures differs { here.now ≢ expected.now → (result ≡ false) × (self.new ≡ record self.old { differing = one_more self.old.differing }) }
+        ensures agrees { here.now ≡ expected.now → (result ≡ true)
+            × (self.new ≡ record self.old { agreed = one_more self.old.agreed }) }
+        ensures differs { here.now ≢ expected.now → (result ≡ false)
+            × (self.new ≡ record self.old { differing = one_more self.old.differing }) }
     {
         let is_same = here == expected;
         if is_same {

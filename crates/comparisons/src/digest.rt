@@ -22,7 +22,8 @@ impl Digest {
 
     /// The digest of numbers, each with four bytes.
     pub fn of<T: Copy + Into<u32>>(numbers: &[T]) -> Digest
-        ensures { (n : T → ℕ) → ((t : T) (k : ℕ) → T.converts t k → k ≡ n t) → result.value ≡ after_numbers first_value (map n numbers.now) }
+        ensures { (n : T → ℕ) → ((t : T) (k : ℕ) → T.converts t k → k ≡ n t) →
+            result.value ≡ after_numbers first_value (map n numbers.now) }
     {
         let mut digest = Digest::new();
         digest.add_all(numbers);
@@ -47,7 +48,8 @@ impl Digest {
 
     /// Adds numbers, each with four bytes.
     pub fn add_all<T: Copy + Into<u32>>(&mut self, numbers: &[T])
-        ensures { (n : T → ℕ) → ((t : T) (k : ℕ) → T.converts t k → k ≡ n t) → self.new.value ≡ after_numbers self.old.value (map n numbers.now) }
+        ensures { (n : T → ℕ) → ((t : T) (k : ℕ) → T.converts t k → k ≡ n t) →
+            self.new.value ≡ after_numbers self.old.value (map n numbers.now) }
     {
         for number in numbers {
             self.add((*number).into());

@@ -62,8 +62,10 @@ impl Refused {
 
     /// Counts a refused call; where memory fails, nothing is said of the counts.
     pub fn add(&mut self, refusal: Refusal) -> Result<(), AllocError>
-        ensures counted { OnOk result (count_at self.new.counts (number_of refusal) ≡ one_more (count_at self.old.counts (number_of refusal))) }
-        ensures others { OnOk result ((n : ℕ) → n ≢ number_of refusal → count_at self.new.counts n ≡ count_at self.old.counts n) }
+        ensures counted { OnOk result (count_at self.new.counts (number_of refusal)
+            ≡ one_more (count_at self.old.counts (number_of refusal))) }
+        ensures others { OnOk result ((n : ℕ) → n ≢ number_of refusal →
+            count_at self.new.counts n ≡ count_at self.old.counts n) }
     {
         let number = refusal.number();
         let count = self.count(number);

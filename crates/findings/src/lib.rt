@@ -30,8 +30,12 @@ pub fn list_findings<'a, N: Net, B: Board>(
     target: Target<'a>,
     memory: &mut [Finding],
 ) -> Result<usize, Refusal>
-    ensures answer { result ≡ survey_answer (N.net net.now) (state_of (B.counts board.now) (B.spare board.now) done.now) tally.now (lent_target target.entry) (length memory.old) }
-    ensures memory { memory.new ≡ findings_memory (N.net net.now) (state_of (B.counts board.now) (B.spare board.now) done.now) tally.now (lent_target target.entry) memory.old }
+    ensures answer { result ≡ survey_answer (N.net net.now)
+        (state_of (B.counts board.now) (B.spare board.now) done.now) tally.now (lent_target target.entry)
+        (length memory.old) }
+    ensures memory { memory.new ≡ findings_memory (N.net net.now)
+        (state_of (B.counts board.now) (B.spare board.now) done.now) tally.now (lent_target target.entry)
+        memory.old }
 {
     let kind = check_survey(net, done, tally, target, memory.len())?;
     let counts = all_counts(board);

@@ -22,4 +22,5 @@ MovedBy N order m spare m' spare' = (m' ≡ after N m order) × (spare' + order_
 
 -- whether all that a tally takes and yields was moved in one go, and what that leaves
 abbrev pub MovedAtOnce : NetMeaning → Tally → ℕ → Bool → Marking → ℕ → Marking → ℕ → Type 0
-MovedAtOnce N x steps b m spare m' spare' = MoveAllSays (spent N x) (gained N x) steps (yields_asked N x) m spare b m' spare'
+MovedAtOnce N x steps b m spare m' spare' =
+    MoveAllSays (spent N x) (gained N x) steps (yields_asked N x) m spare b m' spare'

@@ -26,7 +26,8 @@ fn put_yields<N: Net, B: Board>(net: &N, board: &mut B, step: u16)
 /// call is refused.
 pub fn move_ready<N: Net, B: Board>(net: &N, board: &mut B, step: u16)
     requires { can_move (N.net net.now) (B.counts board.old) (B.spare board.old) step ≡ true }
-    ensures { Moved (N.net net.now) step (B.counts board.old) (B.spare board.old) (B.counts board.new) (B.spare board.new) }
+    ensures { Moved (N.net net.now) step (B.counts board.old) (B.spare board.old) (B.counts board.new)
+        (B.spare board.new) }
 {
     if let Some(input) = net.input(step) {
         let _ = board.take(input);

@@ -19,7 +19,8 @@ const FEW_STEPS: usize = 64;
 fn move_each<N: Net, B: Board>(net: &N, board: &mut B, order: &[u16])
     requires fires { CanFire (N.net net.now) (B.counts board.old) order.now }
     requires room { order_yields (N.net net.now) order.now ≤ B.spare board.old }
-    ensures { MovedBy (N.net net.now) order.now (B.counts board.old) (B.spare board.old) (B.counts board.new) (B.spare board.new) }
+    ensures { MovedBy (N.net net.now) order.now (B.counts board.old) (B.spare board.old) (B.counts board.new)
+        (B.spare board.new) }
 {
     for step in order {
         move_ready(net, board, *step);
@@ -31,7 +32,8 @@ fn move_each<N: Net, B: Board>(net: &N, board: &mut B, order: &[u16])
 fn move_at_once<N: Net, B: Board>(flow: &Flow<'_, N>, board: &mut B, steps: usize) -> bool
     requires few { steps ≤ 65535 }
     requires room { yields_asked (N.net flow.now.net.now) (at flow.now.tally.now) ≤ B.spare board.old }
-    ensures { MovedAtOnce (N.net flow.now.net.now) (at flow.now.tally.now) steps result (B.counts board.old) (B.spare board.old) (B.counts board.new) (B.spare board.new) }
+    ensures { MovedAtOnce (N.net flow.now.net.now) (at flow.now.tally.now) steps result (B.counts board.old)
+        (B.spare board.old) (B.counts board.new) (B.spare board.new) }
 {
     if steps < FEW_STEPS {
         return false;
@@ -48,7 +50,9 @@ pub fn move_order<N: Net, B: Board>(flow: &Flow<'_, N>, board: &mut B, order: &[
     requires few { length order.now ≤ 65535 }
     requires room { yields_asked (N.net flow.now.net.now) (at flow.now.tally.now) ≤ B.spare board.old }
     ensures counts { B.counts board.new ≡ after (N.net flow.now.net.now) (B.counts board.old) order.now }
-    ensures spare { let M = (N.net flow.now.net.now) in B.spare board.new ≡ (B.spare board.old + steps_asked M (at flow.now.tally.now)) - yields_asked M (at flow.now.tally.now) }
+    ensures spare { let M = (N.net flow.now.net.now) in
+        B.spare board.new ≡ (B.spare board.old + steps_asked M (at flow.now.tally.now))
+        - yields_asked M (at flow.now.tally.now) }
 {
     if !move_at_once(flow, board, order.len()) {
         move_each(flow.net, board, order);

@@ -32,7 +32,8 @@ marked_after s t p = (has s.marked p && not (p == at s.inputs t)) || has_at s.yi
 -- the answer says whether t is left once, and no other step that is left takes at its input place
 abbrev pub TakesLast : Schedule → ℕ → Bool → Type 0
 TakesLast s t true = (at s.left t ≡ 1) × ((u : ℕ) → has_at s.takers (at s.inputs t) u ≡ true → u ≡ t)
-TakesLast s t false = (at s.left t ≡ 1 → ⊥) ⊎ ((u : ℕ) × (has_at s.takers (at s.inputs t) u ≡ true) × (u ≡ t → ⊥))
+TakesLast s t false = (at s.left t ≡ 1 → ⊥)
+    ⊎ ((u : ℕ) × (has_at s.takers (at s.inputs t) u ≡ true) × (u ≡ t → ⊥))
 
 -- the two differ at most in what searches found
 pub record Kept (s s' : Schedule) : Type 0 where
@@ -66,8 +67,10 @@ pub record Asked (s : Schedule) (t : ℕ) (s' : Schedule) : Type 0 where
   pub yields : s'.yields ≡ s.yields
   pub counts : s'.counts ≡ s.counts
   pub marked : s'.marked ≡ s.marked
-  pub takers : (p u : ℕ) → has_at s'.takers p u ≡ (has_at s.takers p u || (nat_lt 0 (at s.left t) && (p == at s.inputs t && u == t)))
-  pub before : (p q : ℕ) → has_at s'.origins.before p q ≡ (has_at s.origins.before p q || (nat_lt 0 (at s.left t) && (has_at s.yields t p && q == at s.inputs t)))
+  pub takers : (p u : ℕ) → has_at s'.takers p u
+      ≡ (has_at s.takers p u || (nat_lt 0 (at s.left t) && (p == at s.inputs t && u == t)))
+  pub before : (p q : ℕ) → has_at s'.origins.before p q
+      ≡ (has_at s.origins.before p q || (nat_lt 0 (at s.left t) && (has_at s.yields t p && q == at s.inputs t)))
 
 -- some step that a net may have passes the test
 unfoldable pub any_step : (ℕ → Bool) → Bool
@@ -76,7 +79,8 @@ any_step b = any_below b 128
 -- where t yields, and none of the other steps that take at its input place does
 abbrev pub lost_by : Schedule → ℕ → ℕ → Bool
 lost_by s t p =
-    has_at s.yields t p && not (any_step (λ u. (has_at s.takers (at s.inputs t) u && not (u == t)) && has_at s.yields u p))
+    has_at s.yields t p && not (any_step (λ u. (has_at s.takers (at s.inputs t) u && not (u == t))
+    && has_at s.yields u p))
 
 -- t is taken out of the steps that are left
 pub record Finished (s : Schedule) (t : ℕ) (s' : Schedule) : Type 0 where
@@ -87,4 +91,5 @@ pub record Finished (s : Schedule) (t : ℕ) (s' : Schedule) : Type 0 where
   pub marked : s'.marked ≡ s.marked
   pub takers : (p u : ℕ) → has_at s'.takers p u ≡ (has_at s.takers p u && not (p == at s.inputs t && u == t))
   pub ready : (u : ℕ) → has s'.ready u ≡ (has s.ready u && not (u == t))
-  pub before : (p q : ℕ) → has_at s'.origins.before p q ≡ (has_at s.origins.before p q && not (lost_by s t p && q == at s.inputs t))
+  pub before : (p q : ℕ) → has_at s'.origins.before p q
+      ≡ (has_at s.origins.before p q && not (lost_by s t p && q == at s.inputs t))

@@ -1,7 +1,8 @@
 //! The schedule: the tables that say which step comes next, built, asked and kept.
 ghost use Rattle.reached.specs.Led.{Led, has_at};
 ghost use Rattle.sets.specs.Flags.{has};
-ghost use Rattle.std.specs.Prelude.{◌≡◌, ℕ, ◌+◌, ◌-◌, ◌^◌, ◌<◌, true, if◌then◌else◌, not, ◌&&◌, ◌||◌, ◌==◌, false, ◌↔◌, IsTrue};
+ghost use Rattle.std.specs.Prelude.{◌≡◌, ℕ, ◌+◌, ◌-◌, ◌^◌, ◌<◌, true, if◌then◌else◌};
+ghost use Rattle.std.specs.Prelude.{not, ◌&&◌, ◌||◌, ◌==◌, false, ◌↔◌, IsTrue};
 ghost use Rattle.std.specs.Prelude.{IfSome, ◌≤◌};
 ghost use Rattle.theory.specs.Firing.{Marking, one_at, fired};
 ghost use Rattle.theory.specs.Nets.{NetMeaning};
@@ -121,7 +122,8 @@ impl Schedule {
 
     /// The least step that is safe, where no place is cut off. Only what searches found changes in the schedule.
     pub fn next_step(&mut self) -> Option<u16>
-        ensures answer { WhereShown self.old (λ N m x. NoPlaceCutOff N m x → result ≡ least (is_safe N m x) N.steps) }
+        ensures answer { WhereShown self.old (λ N m x. NoPlaceCutOff N m x →
+            result ≡ least (is_safe N m x) N.steps) }
         ensures ready { IfSome result (λ t. has self.new.ready t ≡ true) }
         ensures kept { (N : NetMeaning) (m : Marking) (x : Tally) → Shows N m x self.old → Shows N m x self.new }
     {
@@ -174,7 +176,8 @@ impl Schedule {
     fn comes_back(&mut self, step: u16) -> bool
         requires inside { step < 128 }
         requires none { yields_in self.old step (at self.old.inputs step) ≡ false }
-        ensures answer { IsTrue result ↔ Led (λ q p. has_at self.old.origins.before p q) (marked_after self.old step) (at self.old.inputs step) }
+        ensures answer { IsTrue result ↔ Led (λ q p. has_at self.old.origins.before p q)
+            (marked_after self.old step) (at self.old.inputs step) }
         ensures kept { Kept self.old self.new }
     {
         let place = self.input(step);
@@ -234,7 +237,8 @@ impl Schedule {
     pub fn fire<N: Net>(&mut self, net: &N, step: u16)
         requires ready { has self.old.ready step ≡ true }
         requires fits { (p : ℕ) → at self.old.counts p + (N.net net.now).yields step p < 2 ^ 32 }
-        ensures { (m : Marking) (x : Tally) → let M = (N.net net.now) in Shows M m x self.old → Shows M (fired M m step) (less x step) self.new }
+        ensures { (m : Marking) (x : Tally) → let M = (N.net net.now) in Shows M m x self.old →
+            Shows M (fired M m step) (less x step) self.new }
     {
         self.put_yields(net, step);
         let place = self.input(step);
@@ -246,7 +250,8 @@ impl Schedule {
     fn put_yields<N: Net>(&mut self, net: &N, step: u16)
         requires inside { step < 128 }
         requires fits { (p : ℕ) → at self.old.counts p + (N.net net.now).yields step p < 2 ^ 32 }
-        ensures { (m : Marking) (x : Tally) → let M = (N.net net.now) in Shows M m x self.old → Shows M (λ p. m p + M.yields step p) x self.new }
+        ensures { (m : Marking) (x : Tally) → let M = (N.net net.now) in Shows M m x self.old →
+            Shows M (λ p. m p + M.yields step p) x self.new }
     {
         let places = self.yields(step);
         add_yields(&mut self.counts, net, step, places);
@@ -289,7 +294,8 @@ impl Schedule {
 /// Adds what the step yields at the places, of those where it yields.
 fn add_yields<N: Net>(counts: &mut [u32; PLACES], net: &N, step: u16, places: PlaceSet)
     requires { (p : ℕ) → at counts.old p + (N.net net.now).yields step p < 2 ^ 32 }
-    ensures { (p : ℕ) → at counts.new p ≡ at counts.old p + (if has places p then (N.net net.now).yields step p else 0) }
+    ensures { (p : ℕ) → at counts.new p ≡ at counts.old p
+        + (if has places p then (N.net net.now).yields step p else 0) }
 {
     for place in places.iter() {
         counts[usize::from(place)] += u32::from(net.yield_at(step, place));

@@ -138,8 +138,11 @@ fn show_markings<B: Board, C: Board>(
 
 /// How a hand-over ended.
 fn outcome_of<N: Net, B: Board, C: Board>(day: &Transcript<N, B, C>) -> Outcome
-    ensures agree { result ≡ Outcome.Agree → AgreeBelow (N.net day.now.second.net).places (B.counts day.now.board) (C.counts day.now.second.board) }
-    ensures differ { result ≡ Outcome.Differ → AgreeBelow (N.net day.now.second.net).places (B.counts day.now.board) (C.counts day.now.second.board) → ⊥ }
+    ensures agree { result ≡ Outcome.Agree →
+        AgreeBelow (N.net day.now.second.net).places (B.counts day.now.board) (C.counts day.now.second.board) }
+    ensures differ { result ≡ Outcome.Differ →
+        AgreeBelow (N.net day.now.second.net).places (B.counts day.now.board)
+        (C.counts day.now.second.board) → ⊥ }
 {
     if day.replay.is_err() {
         Outcome::Refused
@@ -152,7 +155,8 @@ fn outcome_of<N: Net, B: Board, C: Board>(day: &Transcript<N, B, C>) -> Outcome
 
 /// Whether two boards have the same counts at the first places.
 fn agree<B: Board, C: Board>(places: u8, first: &B, second: &C) -> bool
-    ensures { MatchBool result (AgreeBelow places (B.counts first.now) (C.counts second.now)) (AgreeBelow places (B.counts first.now) (C.counts second.now) → ⊥) }
+    ensures { MatchBool result (AgreeBelow places (B.counts first.now) (C.counts second.now))
+        (AgreeBelow places (B.counts first.now) (C.counts second.now) → ⊥) }
 {
     (0..places).all(|place| first.count(place) == second.count(place))
 }

@@ -60,7 +60,8 @@ pub record Made (N : NetMeaning) (s : State) (c : answers.Call) (order : List �
   pub findings_are : findings' ≡ findings_left N s c findings
 
 -- the calls were made one after another: each answer is told in the row for what is said
-pub record AllMade (N : NetMeaning) (s : State) (calls : List answers.Call) (order : List ℕ) (findings : List Finding) (row : List (Result Done Refusal))
+pub record AllMade (N : NetMeaning) (s : State) (calls : List answers.Call) (order : List ℕ)
+    (findings : List Finding) (row : List (Result Done Refusal))
     (s' : State) (order' : List ℕ) (findings' : List Finding) (row' : List (Result Done Refusal)) : Type 0 where
   pub transcript : row' ≡ written (map told (answers_to N s calls)) row
   pub left : s' ≡ after_calls N s calls

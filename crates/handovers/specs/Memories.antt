@@ -32,14 +32,17 @@ EachSays P N s [] = Unit {0}
 EachSays P N s (c ∷ cs) = P (answer_to N s c) × EachSays P N (after_call N s c) cs
 
 -- what the memories hold, call by call
-pub record Memories (N : NetMeaning) (start : State) (calls : List Call) (order : List ℕ) (findings : List Finding) : Type 0 where
+pub record Memories (N : NetMeaning) (start : State) (calls : List Call) (order : List ℕ)
+    (findings : List Finding) : Type 0 where
   -- each call writes over what those before it left, and those behind it over what it left
   pub orders_in_turn : (earlier : List Call) (c : Call) (later : List Call) → calls ≡ earlier ++ (c ∷ later) →
       orders_left N start calls order
-      ≡ orders_left N (after_call N (after_calls N start earlier) c) later (order_left N (after_calls N start earlier) c (orders_left N start earlier order))
+      ≡ orders_left N (after_call N (after_calls N start earlier) c) later
+      (order_left N (after_calls N start earlier) c (orders_left N start earlier order))
   pub findings_in_turn : (earlier : List Call) (c : Call) (later : List Call) → calls ≡ earlier ++ (c ∷ later) →
       all_findings_left N start calls findings
-      ≡ all_findings_left N (after_call N (after_calls N start earlier) c) later (findings_left N (after_calls N start earlier) c (all_findings_left N start earlier findings))
+      ≡ all_findings_left N (after_call N (after_calls N start earlier) c) later
+      (findings_left N (after_calls N start earlier) c (all_findings_left N start earlier findings))
   -- the last order that was said stands at the front, and behind it what stood there before that call
   pub last_order : (earlier : List Call) (c : Call) (later : List Call) → calls ≡ earlier ++ (c ∷ later) →
       (said : List ℕ) → answer_to N (after_calls N start earlier) c ≡ order_written said →

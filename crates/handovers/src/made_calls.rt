@@ -18,7 +18,9 @@ pub fn make<N: Net, B: Board>(
     findings: &mut [Finding],
 ) -> Answer
     ensures net { sitting_net sitting.new ≡ sitting_net sitting.old }
-    ensures made { Made (N.net (sitting_net sitting.old)) (sitting_state B.Board sitting.old) (call_of (length order.old) (length findings.old) call.now) order.old findings.old result (sitting_state B.Board sitting.new) order.new findings.new }
+    ensures made { Made (N.net (sitting_net sitting.old)) (sitting_state B.Board sitting.old)
+        (call_of (length order.old) (length findings.old) call.now) order.old findings.old result
+        (sitting_state B.Board sitting.new) order.new findings.new }
 {
     match call {
         Call::Fire(step) => sitting.fire(*step).map(|()| Done::Fired),
@@ -42,7 +44,9 @@ pub(crate) fn make_all<N: Net, B: Board>(
 )
     requires { length calls.now ≤ length said.old }
     ensures net { sitting_net sitting.new ≡ sitting_net sitting.old }
-    ensures made { AllMade (N.net (sitting_net sitting.old)) (sitting_state B.Board sitting.old) (map (call_of (length order.old) (length findings.old)) calls.now) order.old findings.old said.old (sitting_state B.Board sitting.new) order.new findings.new said.new }
+    ensures made { AllMade (N.net (sitting_net sitting.old)) (sitting_state B.Board sitting.old)
+        (map (call_of (length order.old) (length findings.old)) calls.now) order.old findings.old said.old
+        (sitting_state B.Board sitting.new) order.new findings.new said.new }
 {
     for (i, call) in calls.iter().enumerate() {
         said[i] = make(sitting, call, order, findings);

@@ -50,7 +50,9 @@ pub(crate) fn replay<N: Net, C: Board>(
     order: &mut [u16],
 ) -> (Answer, Sitting<N, C>)
     ensures net { sitting_net result.1 ≡ net }
-    ensures made { Made (N.net net) (new_on (C.counts board) (C.spare board)) (counters_of (N.net net) (state_of (at marking.now) 0 done.now) (length order.old)) order.old [] result.0 (sitting_state C.Board result.1) order.new [] }
+    ensures made { Made (N.net net) (new_on (C.counts board) (C.spare board))
+        (counters_of (N.net net) (state_of (at marking.now) 0 done.now) (length order.old)) order.old []
+        result.0 (sitting_state C.Board result.1) order.new [] }
 {
     let request = Request {
         tally: &done[..usize::from(net.steps())],
@@ -88,8 +90,11 @@ pub fn hand_over<N: Net, B: Board, C: Board>(
         let before = memory.entry in
         let asked = map (call_of (length before.order.now) (length before.findings.now)) calls.now in
         let left = state_of (B.counts h.board) (B.spare h.board) h.done in
-        HandedOver (N.net net) start other asked before.order.now before.findings.now before.said.now before.replay.now left (sitting_state C.Board h.second) h.replay memory.exit.0.now memory.exit.1.0.now memory.exit.1.1.0.now memory.exit.1.1.1.0.now) }
-    ensures refused { IfErr result (λ u. (length memory.entry.said.now < length calls.now) × (u.first ≡ first) × (u.second ≡ second)) }
+        HandedOver (N.net net) start other asked before.order.now before.findings.now before.said.now
+        before.replay.now left (sitting_state C.Board h.second) h.replay memory.exit.0.now
+        memory.exit.1.0.now memory.exit.1.1.0.now memory.exit.1.1.1.0.now) }
+    ensures refused { IfErr result (λ u. (length memory.entry.said.now < length calls.now)
+        × (u.first ≡ first) × (u.second ≡ second)) }
     ensures unwritten { OnErr result (
         (memory.exit.0.now ≡ memory.entry.order.now) × (memory.exit.1.0.now ≡ memory.entry.findings.now)
         × (memory.exit.1.1.0.now ≡ memory.entry.said.now) × (memory.exit.1.1.1.0.now ≡ memory.entry.replay.now)) }

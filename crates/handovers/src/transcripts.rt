@@ -62,7 +62,8 @@ pub fn transcribe<N: Net + Drop, B: Board + Drop, C: Board + Drop>(
         let start = new_on (B.counts first) (B.spare first) in
         let other = new_on (C.counts second) (C.spare second) in
         let left = state_of (B.counts h.board) (B.spare h.board) h.done in
-        Transcribed (N.net net) start other (map owned_call calls.now) memory (map said_of h.said.items) left (said_of h.replay) (sitting_state C.Board h.second)) }
+        Transcribed (N.net net) start other (map owned_call calls.now) memory (map said_of h.said.items) left
+        (said_of h.replay) (sitting_state C.Board h.second)) }
 {
     let mut sitting = Sitting::new(net, first);
     let said = perform_all(alloc, &mut sitting, calls)?;

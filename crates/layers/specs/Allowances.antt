@@ -19,6 +19,7 @@ left_after_move_all all_taken all_put true left = min (left + all_taken - all_pu
 left_after_move_all all_taken all_put false left = left
 
 -- an accepted put is made below too, and a refused one changes nothing there
-abbrev pub PutLeaves : {X : Type 0} → ℕ → ℕ → (ℕ → ℕ) → ℕ → Result X Refusal → (ℕ → ℕ) → ℕ → Type 0
+abbrev pub PutLeaves : {X : Type 0} → ℕ → ℕ → (ℕ → ℕ) → ℕ → Result X Refusal →
+    (ℕ → ℕ) → ℕ → Type 0
 PutLeaves place n counts spare (Ok x) counts' spare' = Put place n counts spare counts' spare'
 PutLeaves place n counts spare (Err e) counts' spare' = Unchanged counts spare counts' spare'

@@ -17,7 +17,8 @@ pub record CanMove (from to : ℕ) (counts : ℕ → ℕ) : Type 0 where
 -- why a move is refused
 abbrev pub MoveRefused : ℕ → ℕ → (ℕ → ℕ) → Refusal → Type 0
 MoveRefused from to counts e =
-    (((63 < from) ⊎ (63 < to)) × (e ≡ NoSuchPlace)) ⊎ ((from ≤ 63) × (to ≤ 63) × (counts from ≡ 0) × (e ≡ PlaceEmpty from))
+    (((63 < from) ⊎ (63 < to)) × (e ≡ NoSuchPlace))
+    ⊎ ((from ≤ 63) × (to ≤ 63) × (counts from ≡ 0) × (e ≡ PlaceEmpty from))
 
 -- which answer a move gets
 abbrev pub MoveAnswers : {X : Type 0} → ℕ → ℕ → (ℕ → ℕ) → Result X Refusal → Type 0

@@ -1,5 +1,6 @@
 -- What a renaming row is, the counts and rows of numbers under it, and what its load answers and leaves.
-use Rattle.std.specs.Prelude.{◌≡◌, ℕ, ◌<◌, if◌then◌else◌, List, length, Ok, Err, Result, nat_lt, slice_index}
+use Rattle.std.specs.Prelude.{◌≡◌, ℕ, ◌<◌, if◌then◌else◌, List, length, Ok, Err, Result, nat_lt}
+use Rattle.std.specs.Prelude.{slice_index}
 use Rattle.refusals.specs.declared.Refusal.{Refusal}
 use Rattle.refusals.specs.declared.Refusal.TheVariants.{NotARenaming}
 

@@ -55,9 +55,13 @@ impl<B: Board> Board for Allowance<B> {
     }
 
     fn take(&mut self, place: u8) -> Result<(), Refusal>
-        ensures answer { let old = self.old in let new = self.new in TakeSays place (B.counts old.below) (min old.left (B.spare old.below)) result (B.counts new.below) (min new.left (B.spare new.below)) }
+        ensures answer { let old = self.old in let new = self.new in
+            TakeSays place (B.counts old.below) (min old.left (B.spare old.below)) result
+            (B.counts new.below) (min new.left (B.spare new.below)) }
         ensures left { self.new.left ≡ left_after_take result self.old.left }
-        ensures below { let old = self.old in let new = self.new in TakeSays place (B.counts old.below) (B.spare old.below) result (B.counts new.below) (B.spare new.below) }
+        ensures below { let old = self.old in let new = self.new in
+            TakeSays place (B.counts old.below) (B.spare old.below) result (B.counts new.below)
+            (B.spare new.below) }
     {
         self.below.take(place)?;
         self.left = (self.left + 1).min(BOARD_LIMIT);
@@ -65,9 +69,13 @@ impl<B: Board> Board for Allowance<B> {
     }
 
     fn put(&mut self, place: u8, n: u32) -> Result<(), Refusal>
-        ensures answer { let old = self.old in let new = self.new in PutSays place n (B.counts old.below) (min old.left (B.spare old.below)) result (B.counts new.below) (min new.left (B.spare new.below)) }
+        ensures answer { let old = self.old in let new = self.new in
+            PutSays place n (B.counts old.below) (min old.left (B.spare old.below)) result
+            (B.counts new.below) (min new.left (B.spare new.below)) }
         ensures left { self.new.left ≡ left_after_put n result self.old.left }
-        ensures below { let old = self.old in let new = self.new in PutLeaves place n (B.counts old.below) (B.spare old.below) result (B.counts new.below) (B.spare new.below) }
+        ensures below { let old = self.old in let new = self.new in
+            PutLeaves place n (B.counts old.below) (B.spare old.below) result (B.counts new.below)
+            (B.spare new.below) }
     {
         index_of(place)?;
         let left = self
@@ -86,9 +94,13 @@ impl<B: Board> Board for Allowance<B> {
         all_taken: u32,
         all_put: u32,
     ) -> bool
-        ensures answer { let old = self.old in let new = self.new in MoveAllSays (at taken.now) (at put.now) all_taken all_put (B.counts old.below) (min old.left (B.spare old.below)) result (B.counts new.below) (min new.left (B.spare new.below)) }
+        ensures answer { let old = self.old in let new = self.new in
+            MoveAllSays (at taken.now) (at put.now) all_taken all_put (B.counts old.below)
+            (min old.left (B.spare old.below)) result (B.counts new.below) (min new.left (B.spare new.below)) }
         ensures left { self.new.left ≡ left_after_move_all all_taken all_put result self.old.left }
-        ensures below { let old = self.old in let new = self.new in MoveAllSays (at taken.now) (at put.now) all_taken all_put (B.counts old.below) (B.spare old.below) result (B.counts new.below) (B.spare new.below) }
+        ensures below { let old = self.old in let new = self.new in
+            MoveAllSays (at taken.now) (at put.now) all_taken all_put (B.counts old.below)
+            (B.spare old.below) result (B.counts new.below) (B.spare new.below) }
     {
         let Some(left) = raised_and_lowered(self.left, all_taken, all_put) else {
             return false;

@@ -94,7 +94,8 @@ impl<B: Board> Board for Renaming<B> {
     ghost bounded = { λ b.
         let h = B.Board.counts b.below in
         let m : ℕ → ℕ = λ p. slice_index_or b.row p 0 in
-        let inner = sum_to_same (renamed b.row h) (λ p. h (m p)) 64 (λ p l. cond-true (nat_lt p 64) (h (m p)) 0 (lt-ltb p 64 l)) in
+        let inner = sum_to_same (renamed b.row h) (λ p. h (m p)) 64
+        (λ p l. cond-true (nat_lt p 64) (h (m p)) 0 (lt-ltb p 64 l)) in
         let same = sum_to_permuted m h 64 b.lawful.inside b.lawful.apart in
         omega (arith, inner ∙ same, B.Board.bounded b.below) };
 
@@ -109,7 +110,9 @@ impl<B: Board> Board for Renaming<B> {
     }
 
     fn take(&mut self, place: u8) -> Result<(), Refusal>
-        ensures answer { let old = self.old in let new = self.new in TakeSays place (renamed old.row (B.counts old.below)) (B.spare old.below) result (renamed new.row (B.counts new.below)) (B.spare new.below) }
+        ensures answer { let old = self.old in let new = self.new in
+            TakeSays place (renamed old.row (B.counts old.below)) (B.spare old.below) result
+            (renamed new.row (B.counts new.below)) (B.spare new.below) }
         ensures row { self.new.row ≡ self.old.row }
     {
         let i = index_of(place)?;
@@ -119,7 +122,9 @@ impl<B: Board> Board for Renaming<B> {
     }
 
     fn put(&mut self, place: u8, n: u32) -> Result<(), Refusal>
-        ensures answer { let old = self.old in let new = self.new in PutSays place n (renamed old.row (B.counts old.below)) (B.spare old.below) result (renamed new.row (B.counts new.below)) (B.spare new.below) }
+        ensures answer { let old = self.old in let new = self.new in
+            PutSays place n (renamed old.row (B.counts old.below)) (B.spare old.below) result
+            (renamed new.row (B.counts new.below)) (B.spare new.below) }
         ensures row { self.new.row ≡ self.old.row }
     {
         let i = index_of(place)?;
@@ -135,7 +140,9 @@ impl<B: Board> Board for Renaming<B> {
         all_taken: u32,
         all_put: u32,
     ) -> bool
-        ensures answer { let old = self.old in let new = self.new in MoveAllSays (at taken.now) (at put.now) all_taken all_put (renamed old.row (B.counts old.below)) (B.spare old.below) result (renamed new.row (B.counts new.below)) (B.spare new.below) }
+        ensures answer { let old = self.old in let new = self.new in
+            MoveAllSays (at taken.now) (at put.now) all_taken all_put (renamed old.row (B.counts old.below))
+            (B.spare old.below) result (renamed new.row (B.counts new.below)) (B.spare new.below) }
         ensures row { self.new.row ≡ self.old.row }
     {
         let taken = row_below(&self.row, taken);

@@ -1,5 +1,6 @@
 -- The line of a verdict, and what is left of text memory that it is written into.
-use Rattle.std.specs.Prelude.{◌≡◌, ℕ, ◌+◌, ◌/◌, ◌%◌, ◌<◌, ◌≤◌, List, [], ◌∷◌, ◌++◌, length, take, Ok, Err, codes, decimal, Result}
+use Rattle.std.specs.Prelude.{◌≡◌, ℕ, ◌+◌, ◌/◌, ◌%◌, ◌<◌, ◌≤◌, List, [], ◌∷◌}
+use Rattle.std.specs.Prelude.{◌++◌, length, take, Ok, Err, codes, decimal, Result}
 use Rattle.refusals.specs.Refusals.{number_of, detail_of}
 use Rattle.refusals.specs.declared.Refusal.{Refusal}
 use Rattle.refusals.specs.declared.Refusal.TheVariants.{TextMemoryShort}
@@ -33,5 +34,6 @@ pub record Puts (bytes before : List ℕ) (begin : ℕ) (after : List ℕ) (end 
 
 -- what writing a line answers and leaves
 abbrev pub LineWritten : List ℕ → List ℕ → Result ℕ Refusal → List ℕ → Type 0
-LineWritten line text (Ok n) text' = (length line ≤ length text) × (n ≡ length line) × (text' ≡ written line text)
+LineWritten line text (Ok n) text' = (length line ≤ length text) × (n ≡ length line)
+    × (text' ≡ written line text)
 LineWritten line text (Err e) text' = (length text < length line) × (e ≡ TextMemoryShort) × (text' ≡ text)

@@ -54,7 +54,8 @@ fn put_piece(line: &mut [u8], begin: usize, number: u16) -> usize
 /// The four bytes of a number's piece.
 fn piece_of(number: u16) -> (u8, u8, u8, u8)
     requires { number < 128 }
-    ensures { take (1 + length (decimal number)) (result.0 ∷ result.1 ∷ result.2 ∷ result.3 ∷ []) ≡ 32 ∷ decimal number }
+    ensures { take (1 + length (decimal number)) (result.0 ∷ result.1 ∷ result.2 ∷ result.3 ∷ [])
+        ≡ 32 ∷ decimal number }
 {
     let i = 4 * usize::from(number);
     (PIECES[i], PIECES[i + 1], PIECES[i + 2], PIECES[i + 3])

@@ -25,7 +25,8 @@ pub struct NetTable {
     ghost inputs_inside: { (t : ℕ) → t < steps → at inputs t < places },
     ghost yields_small: { (t p : ℕ) → t < steps → p < places → cell yields t p ≤ 255 },
     ghost yields_something: { (t : ℕ) → t < steps → yields_somewhere yields places t ≡ true },
-    ghost nothing_outside: { (t p : ℕ) → t < steps → cell yields t p ≡ (table_net places steps inputs yields).yields t p },
+    ghost nothing_outside: { (t p : ℕ) → t < steps →
+        cell yields t p ≡ (table_net places steps inputs yields).yields t p },
     ghost places_held: { (t p : ℕ) → t < steps → has (at yield_places t) p ≡ nat_lt 0 (cell yields t p) },
 }
 

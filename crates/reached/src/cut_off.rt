@@ -11,7 +11,8 @@ use sets::PlaceSet;
 
 /// The places that the tally uses and no block can come to.
 pub fn cut_off_places<N: Net>(net: &N, counts: &[u32], tally: &[u16]) -> PlaceSet
-    ensures { let M = (N.net net.now) in (p : ℕ) → has result p ≡ (nat_lt p M.places && is_cut_off M (at counts.now) (at tally.now) p) }
+    ensures { let M = (N.net net.now) in (p : ℕ) →
+        has result p ≡ (nat_lt p M.places && is_cut_off M (at counts.now) (at tally.now) p) }
 {
     let marked = marked_in(net, counts);
     used_by(net, tally).difference(reached_from(marked, &leads_of(net, tally)))

@@ -10,7 +10,8 @@ use sets::{MOST_PLACES, PlaceSet};
 
 /// The input of a step that the tally asks for.
 pub fn input_asked<N: Net>(net: &N, tally: &[u16], step: u16) -> Option<u8>
-    ensures { let M = (N.net net.now) in MatchOption result (step < M.steps → at tally.now step ≡ 0) (λ p. (p ≡ M.input step) × (step < M.steps) × (0 < at tally.now step)) }
+    ensures { let M = (N.net net.now) in MatchOption result (step < M.steps →
+        at tally.now step ≡ 0) (λ p. (p ≡ M.input step) × (step < M.steps) × (0 < at tally.now step)) }
 {
     match tally.get(usize::from(step)).copied().unwrap_or(0) {
         0 => None,

@@ -1,5 +1,6 @@
 //! Where each place is reached from.
-ghost use Rattle.std.specs.Prelude.{◌≡◌, ℕ, ◌<◌, ◌≤◌, true, false, not, ◌&&◌, ◌||◌, ◌==◌, ◌↔◌, IsTrue, length};
+ghost use Rattle.std.specs.Prelude.{◌≡◌, ℕ, ◌<◌, ◌≤◌, true, false, not, ◌&&◌, ◌||◌};
+ghost use Rattle.std.specs.Prelude.{◌==◌, ◌↔◌, IsTrue, length};
 ghost use Rattle.sets.specs.Flags.{has};
 ghost use Rattle.reached.specs.Led.{OtherOrigin, has_at};
 ghost use Rattle.theory.specs.Rows.{at};
@@ -16,7 +17,8 @@ pub struct Origins {
     /// For each place in `known`, all other places from which it is reached.
     above: [PlaceSet; MOST_PLACES],
     known: PlaceSet,
-    ghost found: { (p : ℕ) → p < 64 → has known p ≡ true → (q : ℕ) → IsTrue (has_at above p q) ↔ OtherOrigin (has_at before) p q },
+    ghost found: { (p : ℕ) → p < 64 → has known p ≡ true → (q : ℕ) →
+        IsTrue (has_at above p q) ↔ OtherOrigin (has_at before) p q },
 }
 
 impl Origins {
@@ -34,7 +36,8 @@ impl Origins {
     /// The given places are reached at once from the origin too.
     pub fn add(&mut self, places: PlaceSet, origin: u8)
         requires { origin < 64 }
-        ensures { (p q : ℕ) → has_at self.new.before p q ≡ (has_at self.old.before p q || (has places p && q == origin)) }
+        ensures { (p q : ℕ) → has_at self.new.before p q
+            ≡ (has_at self.old.before p q || (has places p && q == origin)) }
     {
         self.known = PlaceSet::empty();
         put_in(&mut self.before, places, origin);
@@ -57,7 +60,8 @@ impl Origins {
 
     /// The given places are no longer reached at once from the origin.
     pub fn lose(&mut self, places: PlaceSet, origin: u8)
-        ensures { (p q : ℕ) → has_at self.new.before p q ≡ (has_at self.old.before p q && not (has places p && q == origin)) }
+        ensures { (p q : ℕ) → has_at self.new.before p q
+            ≡ (has_at self.old.before p q && not (has places p && q == origin)) }
     {
         if !places.is_empty() {
             self.known = PlaceSet::empty();

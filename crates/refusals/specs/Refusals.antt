@@ -1,7 +1,12 @@
 -- Each refusal's number, what its detail names, and its words.
 use Rattle.std.specs.Prelude.{ℕ, List, ◌++◌, codes, decimal}
 use Rattle.refusals.specs.declared.Refusal.{Refusal}
-use Rattle.refusals.specs.declared.Refusal.TheVariants.{WrongLength, PlacesOutOfRange, TooManyStepsOrArcs, StepUnfit, ArcUnfit, StepWithoutYield, RowsUnfit, DoneLimit, OrderMemoryShort, SpareShort, Short, CutOff, Missed, NoSuchStep, InputEmpty, NoSuchPlace, PlaceEmpty, PutAboveSpare, BoardRowUnfit, NotARenaming, ListFull, TextMemoryShort}
+use Rattle.refusals.specs.declared.Refusal.TheVariants.{WrongLength, PlacesOutOfRange, TooManyStepsOrArcs, StepUnfit}
+use Rattle.refusals.specs.declared.Refusal.TheVariants.{ArcUnfit, StepWithoutYield, RowsUnfit, DoneLimit}
+use Rattle.refusals.specs.declared.Refusal.TheVariants.{OrderMemoryShort, SpareShort, Short, CutOff, Missed}
+use Rattle.refusals.specs.declared.Refusal.TheVariants.{NoSuchStep, InputEmpty, NoSuchPlace, PlaceEmpty}
+use Rattle.refusals.specs.declared.Refusal.TheVariants.{PutAboveSpare, BoardRowUnfit, NotARenaming, ListFull}
+use Rattle.refusals.specs.declared.Refusal.TheVariants.{TextMemoryShort}
 
 -- the number that stands for a refusal
 abbrev pub number_of : Refusal → ℕ
@@ -80,4 +85,5 @@ words_of TextMemoryShort = codes "the text memory is too short for the line"
 
 -- what is printed of a refusal
 abbrev pub shown_as : Refusal → List ℕ
-shown_as e = codes "refusal " ++ (decimal (number_of e) ++ (codes " at " ++ (decimal (detail_of e) ++ (codes ": " ++ words_of e))))
+shown_as e = codes "refusal " ++ (decimal (number_of e)
+    ++ (codes " at " ++ (decimal (detail_of e) ++ (codes ": " ++ words_of e))))

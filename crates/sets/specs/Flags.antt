@@ -1,5 +1,6 @@
 -- A set of numbers as the binary digits of one number.
-use Rattle.std.specs.Prelude.{◌≡◌, ℕ, ◌/◌, ◌%◌, ◌^◌, Bool, false, not, ◌&&◌, Option, MatchOption, ◌==◌}
+use Rattle.std.specs.Prelude.{◌≡◌, ℕ, ◌/◌, ◌%◌, ◌^◌, Bool, false, not, ◌&&◌, Option}
+use Rattle.std.specs.Prelude.{MatchOption, ◌==◌}
 use Rattle.theory.specs.Laws.{IsLeast}
 use Rattle.theory.specs.Tests.{least}
 

@@ -1,5 +1,6 @@
 //! Place sets: a set of places 0 to 63 as the 64 flags of one word.
-ghost use Rattle.std.specs.Prelude.{◌≡◌, ℕ, ◌^◌, ◌<◌, ◌≤◌, Bool, true, false, not, ◌&&◌, ◌||◌, ◌↔◌, IsTrue, MatchOption, ◌==◌, nat_lt};
+ghost use Rattle.std.specs.Prelude.{◌≡◌, ℕ, ◌^◌, ◌<◌, ◌≤◌, Bool, true, false, not, ◌&&◌};
+ghost use Rattle.std.specs.Prelude.{◌||◌, ◌↔◌, IsTrue, MatchOption, ◌==◌, nat_lt};
 ghost use Rattle.theory.specs.Laws.{IsLeast};
 ghost use Rattle.sets.specs.Flags.{has, first_in, IsEmpty, TakesFirst};
 ghost use Rattle.std.specs.Iterator.{at_most};
@@ -38,7 +39,8 @@ impl PlaceSet {
     /// The places below the given end, none above 63, that pass a test.
     pub fn passing<F: Fn(u8) -> bool>(end: u8, test: F) -> PlaceSet
         requires { F.IsAlwaysCallable test }
-        ensures { (b : ℕ → Bool) → ((p : ℕ) (r : Bool) → p < end → F.post test p r → r ≡ b p) → (p : ℕ) → has result p ≡ (nat_lt p end && (nat_lt p 64 && b p)) }
+        ensures { (b : ℕ → Bool) → ((p : ℕ) (r : Bool) → p < end → F.post test p r →
+            r ≡ b p) → (p : ℕ) → has result p ≡ (nat_lt p end && (nat_lt p 64 && b p)) }
     {
         let mut places = PlaceSet::empty();
         // Where the end is cut off first, `with` need not compare each place with it.
@@ -81,7 +83,8 @@ impl PlaceSet {
 
     /// The set without its least place.
     pub fn without_first(self) -> PlaceSet
-        ensures answer { (k : ℕ) → IsLeast (has self) 64 k → (p : ℕ) → has result p ≡ (has self p && not (p == k)) }
+        ensures answer { (k : ℕ) → IsLeast (has self) 64 k → (p : ℕ) →
+            has result p ≡ (has self p && not (p == k)) }
         ensures none { IsEmpty self → IsEmpty result }
         ensures shrinks { 0 < self → result < self }
     {

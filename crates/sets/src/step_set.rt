@@ -1,5 +1,6 @@
 //! Step sets: a set of steps 0 to 127 as the 128 flags of one word.
-ghost use Rattle.std.specs.Prelude.{◌≡◌, ℕ, ◌^◌, ◌<◌, ◌≤◌, Bool, false, not, ◌&&◌, ◌||◌, ◌↔◌, IsTrue, MatchOption, ◌==◌, nat_lt};
+ghost use Rattle.std.specs.Prelude.{◌≡◌, ℕ, ◌^◌, ◌<◌, ◌≤◌, Bool, false, not, ◌&&◌};
+ghost use Rattle.std.specs.Prelude.{◌||◌, ◌↔◌, IsTrue, MatchOption, ◌==◌, nat_lt};
 ghost use Rattle.theory.specs.Laws.{IsLeast};
 ghost use Rattle.sets.specs.Flags.{has, first_in, IsEmpty, TakesFirst};
 ghost use Rattle.std.specs.Iterator.{at_most};
@@ -61,7 +62,8 @@ impl StepSet {
 
     /// The set without its least step.
     pub fn without_first(self) -> StepSet
-        ensures answer { (k : ℕ) → IsLeast (has self) 128 k → (t : ℕ) → has result t ≡ (has self t && not (t == k)) }
+        ensures answer { (k : ℕ) → IsLeast (has self) 128 k → (t : ℕ) →
+            has result t ≡ (has self t && not (t == k)) }
         ensures none { IsEmpty self → IsEmpty result }
         ensures shrinks { 0 < self → result < self }
     {

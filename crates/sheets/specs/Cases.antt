@@ -80,25 +80,32 @@ a_head_at_its_limits = says (64 ∷ 128 ∷ 3 ∷ 255 ∷ []) (codes "no 1 0")
 -- one place and two steps, whose inputs, first arcs and one arc follow; one block, each step once, at least 0
 abbrev pub two_steps : List ℕ → List ℕ → List ℕ → List ℕ
 two_steps step0 step1 arc =
-    asks ((1 ∷ 2 ∷ 0 ∷ 1 ∷ []) ++ (step0 ++ (step1 ++ arc))) (0 ∷ 0 ∷ 0 ∷ 1 ∷ []) (0 ∷ 1 ∷ 0 ∷ 1 ∷ []) 1 (0 ∷ 0 ∷ 0 ∷ 0 ∷ [])
+    asks ((1 ∷ 2 ∷ 0 ∷ 1 ∷ []) ++ (step0 ++ (step1 ++ arc))) (0 ∷ 0 ∷ 0 ∷ 1 ∷ [])
+    (0 ∷ 1 ∷ 0 ∷ 1 ∷ []) 1 (0 ∷ 0 ∷ 0 ∷ 0 ∷ [])
 
 abbrev pub both_steps_share_an_arc : Case
-both_steps_share_an_arc = says (two_steps (0 ∷ 0 ∷ 1 ∷ []) (0 ∷ 0 ∷ 1 ∷ []) (0 ∷ 1 ∷ 0 ∷ 0 ∷ [])) (codes "ok 0 1")
+both_steps_share_an_arc = says (two_steps (0 ∷ 0 ∷ 1 ∷ []) (0 ∷ 0 ∷ 1 ∷ [])
+    (0 ∷ 1 ∷ 0 ∷ 0 ∷ [])) (codes "ok 0 1")
 
 abbrev pub an_input_past_the_places : Case
-an_input_past_the_places = says (two_steps (0 ∷ 0 ∷ 1 ∷ []) (1 ∷ 0 ∷ 1 ∷ []) (0 ∷ 1 ∷ 0 ∷ 0 ∷ [])) (codes "no 4 1")
+an_input_past_the_places = says (two_steps (0 ∷ 0 ∷ 1 ∷ []) (1 ∷ 0 ∷ 1 ∷ [])
+    (0 ∷ 1 ∷ 0 ∷ 0 ∷ [])) (codes "no 4 1")
 
 abbrev pub a_first_arc_past_the_arcs : Case
-a_first_arc_past_the_arcs = says (two_steps (0 ∷ 0 ∷ 2 ∷ []) (0 ∷ 0 ∷ 1 ∷ []) (0 ∷ 1 ∷ 0 ∷ 0 ∷ [])) (codes "no 4 0")
+a_first_arc_past_the_arcs = says (two_steps (0 ∷ 0 ∷ 2 ∷ []) (0 ∷ 0 ∷ 1 ∷ [])
+    (0 ∷ 1 ∷ 0 ∷ 0 ∷ [])) (codes "no 4 0")
 
 abbrev pub an_arc_without_weight : Case
-an_arc_without_weight = says (two_steps (0 ∷ 0 ∷ 1 ∷ []) (0 ∷ 0 ∷ 1 ∷ []) (0 ∷ 0 ∷ 0 ∷ 0 ∷ [])) (codes "no 5 1")
+an_arc_without_weight = says (two_steps (0 ∷ 0 ∷ 1 ∷ []) (0 ∷ 0 ∷ 1 ∷ [])
+    (0 ∷ 0 ∷ 0 ∷ 0 ∷ [])) (codes "no 5 1")
 
 abbrev pub an_arc_that_follows_itself : Case
-an_arc_that_follows_itself = says (two_steps (0 ∷ 0 ∷ 1 ∷ []) (0 ∷ 0 ∷ 1 ∷ []) (0 ∷ 1 ∷ 0 ∷ 1 ∷ [])) (codes "no 5 1")
+an_arc_that_follows_itself =
+    says (two_steps (0 ∷ 0 ∷ 1 ∷ []) (0 ∷ 0 ∷ 1 ∷ []) (0 ∷ 1 ∷ 0 ∷ 1 ∷ [])) (codes "no 5 1")
 
 abbrev pub a_step_without_arcs : Case
-a_step_without_arcs = says (two_steps (0 ∷ 0 ∷ 1 ∷ []) (0 ∷ 0 ∷ 0 ∷ []) (0 ∷ 1 ∷ 0 ∷ 0 ∷ [])) (codes "no 6 1")
+a_step_without_arcs = says (two_steps (0 ∷ 0 ∷ 1 ∷ []) (0 ∷ 0 ∷ 0 ∷ [])
+    (0 ∷ 1 ∷ 0 ∷ 0 ∷ [])) (codes "no 6 1")
 
 -- AT THE EDGES
 
@@ -117,7 +124,8 @@ start_one_past_the_law = says (stays (127 ∷ 240 ∷ 189 ∷ 192 ∷ [])) (code
 abbrev pub yields_250_and_1 : List ℕ → List ℕ → List ℕ
 yields_250_and_1 tallies targets =
     asks
-    ((1 ∷ 2 ∷ 0 ∷ 2 ∷ []) ++ ((0 ∷ 0 ∷ 1 ∷ []) ++ ((0 ∷ 0 ∷ 2 ∷ []) ++ ((0 ∷ 250 ∷ 0 ∷ 0 ∷ []) ++ (0 ∷ 1 ∷ 0 ∷ 0 ∷ [])))))
+    ((1 ∷ 2 ∷ 0 ∷ 2 ∷ []) ++ ((0 ∷ 0 ∷ 1 ∷ [])
+    ++ ((0 ∷ 0 ∷ 2 ∷ []) ++ ((0 ∷ 250 ∷ 0 ∷ 0 ∷ []) ++ (0 ∷ 1 ∷ 0 ∷ 0 ∷ [])))))
     (0 ∷ 0 ∷ 0 ∷ 1 ∷ []) tallies 0 targets
 
 -- a word so many times over
@@ -141,28 +149,33 @@ yields_of_a_million_and_one = says (yields_250_and_1 (15 ∷ 160 ∷ 0 ∷ 1 ∷
 -- step 1 alone gives back the one block that it takes; 16 × 256 = 4096
 abbrev pub a_tally_of_4096 : Case
 a_tally_of_4096 =
-    says (yields_250_and_1 (0 ∷ 0 ∷ 16 ∷ 0 ∷ []) (0 ∷ 0 ∷ 0 ∷ 1 ∷ [])) (codes "ok" ++ times_over 4096 (codes " 1"))
+    says (yields_250_and_1 (0 ∷ 0 ∷ 16 ∷ 0 ∷ []) (0 ∷ 0 ∷ 0 ∷ 1 ∷ []))
+    (codes "ok" ++ times_over 4096 (codes " 1"))
 
 abbrev pub a_tally_of_4097 : Case
 a_tally_of_4097 = says (yields_250_and_1 (0 ∷ 0 ∷ 16 ∷ 1 ∷ []) (0 ∷ 0 ∷ 0 ∷ 1 ∷ [])) (codes "no 9 0")
 
 abbrev pub a_tally_of_65535 : Case
-a_tally_of_65535 = says (yields_250_and_1 (0 ∷ 0 ∷ 255 ∷ 255 ∷ []) (0 ∷ 0 ∷ 0 ∷ 0 ∷ [])) (codes "no 9 0")
+a_tally_of_65535 = says (yields_250_and_1 (0 ∷ 0 ∷ 255 ∷ 255 ∷ []) (0 ∷ 0 ∷ 0 ∷ 0 ∷ []))
+    (codes "no 9 0")
 
 abbrev pub a_tally_of_65536 : Case
-a_tally_of_65536 = says (yields_250_and_1 (0 ∷ 1 ∷ 255 ∷ 255 ∷ []) (0 ∷ 0 ∷ 0 ∷ 0 ∷ [])) (codes "no 8 0")
+a_tally_of_65536 = says (yields_250_and_1 (0 ∷ 1 ∷ 255 ∷ 255 ∷ []) (0 ∷ 0 ∷ 0 ∷ 0 ∷ []))
+    (codes "no 8 0")
 
 -- TWO AT FAULT: THE EARLIER CHECK DECIDES
 
 abbrev pub an_unknown_kind_and_a_start_past_the_law : Case
 an_unknown_kind_and_a_start_past_the_law =
-    says (asks (1 ∷ 0 ∷ 0 ∷ 0 ∷ []) (255 ∷ 0 ∷ 0 ∷ 0 ∷ []) [] 2 (0 ∷ 0 ∷ 0 ∷ 0 ∷ [])) (codes "no 7 0")
+    says (asks (1 ∷ 0 ∷ 0 ∷ 0 ∷ []) (255 ∷ 0 ∷ 0 ∷ 0 ∷ []) [] 2 (0 ∷ 0 ∷ 0 ∷ 0 ∷ []))
+    (codes "no 7 0")
 
 abbrev pub a_start_past_the_law_and_too_many_steps : Case
 a_start_past_the_law_and_too_many_steps =
     says
     (asks
-    ((1 ∷ 2 ∷ 0 ∷ 1 ∷ []) ++ ((0 ∷ 0 ∷ 1 ∷ []) ++ ((0 ∷ 0 ∷ 1 ∷ []) ++ (0 ∷ 1 ∷ 0 ∷ 0 ∷ []))))
+    ((1 ∷ 2 ∷ 0 ∷ 1 ∷ []) ++ ((0 ∷ 0 ∷ 1 ∷ [])
+    ++ ((0 ∷ 0 ∷ 1 ∷ []) ++ (0 ∷ 1 ∷ 0 ∷ 0 ∷ []))))
     (255 ∷ 0 ∷ 0 ∷ 0 ∷ []) (255 ∷ 255 ∷ 0 ∷ 1 ∷ []) 0 (0 ∷ 0 ∷ 0 ∷ 0 ∷ []))
     (codes "no 19 0")
 

@@ -16,7 +16,8 @@ pub record Judged (sheet line : List ℕ) : Type 0 where
   pub says_ok : (take 2 line ≡ codes "ok") ↔ SheetFits sheet
   -- then with the first of the orders that do it
   pub has_the_first : take 2 line ≡ codes "ok" →
-      (order : List ℕ) × ((line ≡ ok_line order) × Does sheet order × ((other : List ℕ) → Does sheet other → (order ≡ other) ⊎ Earlier order other))
+      (order : List ℕ) × ((line ≡ ok_line order) × Does sheet order
+      × ((other : List ℕ) → Does sheet other → (order ≡ other) ⊎ Earlier order other))
   -- `no` with the refusal for which there is a reason
   pub says_why : (e : Refusal) → WhySheet sheet e → line ≡ no_line e
   -- one of the two it always says

@@ -10,6 +10,7 @@ use Rattle.answers.specs.Answers.{unless, resume_refusal, resume_answer, after_r
 pub record Fired (N : NetMeaning) (s : State) (tally : List ℕ) (target : Target) (memory : List ℕ)
     (r : Result ℕ Refusal) (counts' : Marking) (spare' : ℕ) (memory' : List ℕ) : Type 0 where
   pub answer : r ≡ resume_answer N s tally target (length memory)
-  pub counts : counts' ≡ unless (resume_refusal N s tally target (length memory)) s.counts (after_resume N s tally).counts
+  pub counts : counts' ≡ unless (resume_refusal N s tally target (length memory)) s.counts
+      (after_resume N s tally).counts
   pub spare : spare' ≡ unless (resume_refusal N s tally target (length memory)) s.spare (after_resume N s tally).spare
   pub written : memory' ≡ order_memory N s tally target memory

@@ -1,5 +1,6 @@
 //! A sitting: one net, one board and one done row, and its calls fire, resume and survey.
-ghost use Rattle.answers.specs.Answers.{fire_refusal, fire_answer, after_fire, resume_refusal, resume_answer, after_resume, order_memory, unless};
+ghost use Rattle.answers.specs.Answers.{fire_refusal, fire_answer, after_fire, resume_refusal, resume_answer};
+ghost use Rattle.answers.specs.Answers.{after_resume, order_memory, unless};
 ghost use Rattle.answers.specs.Findings.{survey_answer, findings_memory};
 ghost use Rattle.answers.specs.Targets.{lent_target};
 ghost use Rattle.std.specs.Prelude.{◌≡◌, length, ℕ, ◌≤◌};
@@ -86,7 +87,8 @@ impl<N: Net, B: Board> Sitting<N, B> {
         ensures answer { result ≡ fire_answer (N.net (sitting_net self.old)) (sitting_state B.Board self.old) step }
         ensures after { let net = N.net (sitting_net self.old) in
             let before = sitting_state B.Board self.old in
-            sitting_state B.Board self.new ≡ unless (fire_refusal net before step) before (after_fire net before step) }
+            sitting_state B.Board self.new ≡ unless (fire_refusal net before step) before
+            (after_fire net before step) }
     {
         let Some(input) = self.net.input(step) else {
             return Err(Refusal::NoSuchStep);
@@ -116,12 +118,16 @@ impl<N: Net, B: Board> Sitting<N, B> {
         order: &mut [u16],
     ) -> Result<usize, Refusal>
         ensures net { sitting_net self.new ≡ sitting_net self.old }
-        ensures answer { result ≡ resume_answer (N.net (sitting_net self.old)) (sitting_state B.Board self.old) tally.now (lent_target target.entry) (length order.old) }
+        ensures answer { result ≡ resume_answer (N.net (sitting_net self.old))
+            (sitting_state B.Board self.old) tally.now (lent_target target.entry) (length order.old) }
         ensures after { let net = N.net (sitting_net self.old) in
             let before = sitting_state B.Board self.old in
             let target = lent_target target.entry in
-            sitting_state B.Board self.new ≡ unless (resume_refusal net before tally.now target (length order.old)) before (after_resume net before tally.now) }
-        ensures memory { order.new ≡ order_memory (N.net (sitting_net self.old)) (sitting_state B.Board self.old) tally.now (lent_target target.entry) order.old }
+            sitting_state B.Board self.new
+            ≡ unless (resume_refusal net before tally.now target (length order.old)) before
+            (after_resume net before tally.now) }
+        ensures memory { order.new ≡ order_memory (N.net (sitting_net self.old))
+            (sitting_state B.Board self.old) tally.now (lent_target target.entry) order.old }
     {
         let mut table = NetTable::new();
         table.read(&self.net);
@@ -140,8 +146,10 @@ impl<N: Net, B: Board> Sitting<N, B> {
         target: Target<'_>,
         findings: &mut [Finding],
     ) -> Result<usize, Refusal>
-        ensures answer { result ≡ survey_answer (N.net (sitting_net self.now)) (sitting_state B.Board self.now) tally.now (lent_target target.entry) (length findings.old) }
-        ensures memory { findings.new ≡ findings_memory (N.net (sitting_net self.now)) (sitting_state B.Board self.now) tally.now (lent_target target.entry) findings.old }
+        ensures answer { result ≡ survey_answer (N.net (sitting_net self.now))
+            (sitting_state B.Board self.now) tally.now (lent_target target.entry) (length findings.old) }
+        ensures memory { findings.new ≡ findings_memory (N.net (sitting_net self.now))
+            (sitting_state B.Board self.now) tally.now (lent_target target.entry) findings.old }
     {
         let mut table = NetTable::new();
         table.read(&self.net);

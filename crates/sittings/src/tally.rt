@@ -24,7 +24,8 @@ pub(crate) fn fire_tally<N: Net, B: Board>(
     target: Target<'_>,
     memory: &mut [u16],
 ) -> Result<usize, Refusal>
-    ensures { Fired (N.net net.now) (state_of (B.counts board.old) (B.spare board.old) done.now) tally.now (lent_target target.entry) memory.old result (B.counts board.new) (B.spare board.new) memory.new }
+    ensures { Fired (N.net net.now) (state_of (B.counts board.old) (B.spare board.old) done.now) tally.now
+        (lent_target target.entry) memory.old result (B.counts board.new) (B.spare board.new) memory.new }
 {
     let flow = Flow::of(net, tally);
     let kind = check_sizes(&flow, board.spare(), done, target, memory.len())?;

@@ -1,5 +1,6 @@
 -- What one pass over the slots finds and leaves, and what take and put mean for single slots.
-use Rattle.std.specs.Prelude.{◌≡◌, ℕ, ◌+◌, ◌<◌, ◌⊎◌, List, length, ◌≢◌, slice_index, slice_index_or, slice_set}
+use Rattle.std.specs.Prelude.{◌≡◌, ℕ, ◌+◌, ◌<◌, ◌⊎◌, List, length, ◌≢◌, slice_index}
+use Rattle.std.specs.Prelude.{slice_index_or, slice_set}
 use Rattle.boards.specs.Boards.{Taken, Put}
 use Rattle.slot_board.specs.Slots.{occurs, counts_of, lowest_with, filled}
 
@@ -16,8 +17,10 @@ pub record FirstAt (held : ℕ) (slots : List ℕ) (i : ℕ) : Type 0 where
 -- some empty slots are filled with the number, and none below an empty one that stays
 pub record HighestFilled (held : ℕ) (slots slots' : List ℕ) : Type 0 where
   pub blocks_kept : (k : ℕ) → (slice_index slots k ≢ 0) → slice_index slots' k ≡ slice_index slots k
-  pub empty_or_held : (k : ℕ) → slice_index slots k ≡ 0 → (slice_index slots' k ≡ 0) ⊎ (slice_index slots' k ≡ held)
-  pub from_the_top : (j k : ℕ) → j < k → k < length slots → slice_index slots' k ≡ 0 → slice_index slots' j ≡ slice_index slots j
+  pub empty_or_held : (k : ℕ) → slice_index slots k ≡ 0 →
+      (slice_index slots' k ≡ 0) ⊎ (slice_index slots' k ≡ held)
+  pub from_the_top : (j k : ℕ) → j < k → k < length slots → slice_index slots' k ≡ 0 →
+      slice_index slots' j ≡ slice_index slots j
 
 -- the place's lowest slot is emptied, and what that makes of the counts and of spare
 pub record TakenSlot (place : ℕ) (slots slots' : List ℕ) : Type 0 where

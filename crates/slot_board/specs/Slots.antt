@@ -1,6 +1,7 @@
 -- What slots say of the counts and of spare, and which of them change by a take and by a put.
 -- The number of a slot is 0 where it has no block, else one more than the place of its block.
-use Rattle.std.specs.Prelude.{ℕ, suc, ◌+◌, if◌then◌else◌, ◌&&◌, List, [], ◌∷◌, Ok, Err, Result, ◌==◌, nat_lt, slice_set}
+use Rattle.std.specs.Prelude.{ℕ, suc, ◌+◌, if◌then◌else◌, ◌&&◌, List, [], ◌∷◌, Ok, Err, Result}
+use Rattle.std.specs.Prelude.{◌==◌, nat_lt, slice_set}
 use Rattle.theory.specs.Firing.{times}
 use Rattle.refusals.specs.declared.Refusal.{Refusal}
 

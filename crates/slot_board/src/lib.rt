@@ -1,7 +1,8 @@
 //! The slot board: blocks with an address, as in a heap, so that it shows where a sitting left each of them.
 #![tactic(auto)]
 
-ghost use Rattle.std.specs.Prelude.{◌≡◌, ℕ, ◌+◌, ◌≤◌, length, replicate, MatchBool, MatchOption, MatchResult, OnOk, slice_index};
+ghost use Rattle.std.specs.Prelude.{◌≡◌, ℕ, ◌+◌, ◌≤◌, length, replicate, MatchBool, MatchOption};
+ghost use Rattle.std.specs.Prelude.{MatchResult, OnOk, slice_index};
 ghost use Rattle.boards.specs.Boards.{TakeSays, PutSays};
 ghost use Rattle.slot_board.specs.Slots.{occurs, counts_of, lowest_with, slots_after_take, slots_after_put};
 ghost use Rattle.slot_board.specs.Passes.{Absent, FirstAt, HighestFilled, TakenSlot, PutSlots};
@@ -97,7 +98,8 @@ fn empty_lowest(slots: &mut [u8], place: u8) -> Result<(), Refusal>
     requires inside { place ≤ 63 }
     ensures fit { SlotsFit slots.new }
     ensures few { occurs 0 slots.new ≤ 4096 }
-    ensures answer { MatchResult result (λ _. TakenSlot place slots.old slots.new) (λ e. (counts_of slots.old place ≡ 0) × (slots.new ≡ slots.old) × (e ≡ PlaceEmpty place)) }
+    ensures answer { MatchResult result (λ _. TakenSlot place slots.old slots.new)
+        (λ e. (counts_of slots.old place ≡ 0) × (slots.new ≡ slots.old) × (e ≡ PlaceEmpty place)) }
 {
     let i = lowest(slots, place + 1).ok_or(Refusal::PlaceEmpty(place))?;
     slots[i] = EMPTY;
@@ -152,7 +154,8 @@ impl Board for SlotBoard {
         ensures answer { TakeSays place (counts_of (slot_bytes self.old)) (occurs 0 (slot_bytes self.old)) result
             (counts_of (slot_bytes self.new)) (occurs 0 (slot_bytes self.new)) }
         ensures slots { slot_bytes self.new ≡ slots_after_take place result (slot_bytes self.old) }
-        ensures lowest { OnOk result (FirstAt (place + 1) (slot_bytes self.old) (lowest_with (place + 1) (slot_bytes self.old))) }
+        ensures lowest { OnOk result (FirstAt (place + 1) (slot_bytes self.old)
+            (lowest_with (place + 1) (slot_bytes self.old))) }
     {
         index_of(place)?;
         empty_lowest(&mut self.slots, place)?;

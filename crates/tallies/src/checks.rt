@@ -17,7 +17,8 @@ use refusals::Refusal;
 /// The kind of the target. Refused: `RowsUnfit`, unless there is one, the tally has a number for each step and the
 /// target one for each place.
 pub fn check_rows<N: Net>(net: &N, tally: &[u16], target: Target<'_>) -> Result<Kind, Refusal>
-    ensures { Checked (if rows_fit (N.net net.now) tally.now (lent_target target.entry) then None else Some RowsUnfit) target.entry.kind result }
+    ensures { Checked (if rows_fit (N.net net.now) tally.now (lent_target target.entry) then None
+        else Some RowsUnfit) target.entry.kind result }
 {
     if tally.len() != usize::from(net.steps()) {
         return Err(Refusal::RowsUnfit);
@@ -65,7 +66,9 @@ pub fn check_survey<N: Net>(
     target: Target<'_>,
     memory: usize,
 ) -> Result<Kind, Refusal>
-    ensures { (counts : Marking) (spare : ℕ) → Checked (survey_refusal (N.net net.now) (state_of counts spare done.now) tally.now (lent_target target.entry) memory) target.entry.kind result }
+    ensures { (counts : Marking) (spare : ℕ) →
+        Checked (survey_refusal (N.net net.now) (state_of counts spare done.now) tally.now
+        (lent_target target.entry) memory) target.entry.kind result }
 {
     let kind = check_rows(net, tally, target)?;
     if done_total(done) + steps_asked(net, tally) > DONE_LIMIT {

@@ -82,7 +82,8 @@ impl<'a, N: Net> Asked<'a, N> {
     /// By how many blocks the tally overshoots the target at the place; below 0 where it falls behind.
     pub fn missed_by(&self, place: u8) -> i64
         ensures { let flow = self.now.flow.now in let net = (N.net flow.net.now) in
-            result ≡ final_number net (at self.now.counts.now) (at flow.tally.now) place -ℤ pos (at self.now.target.now place) }
+            result ≡ final_number net (at self.now.counts.now) (at flow.tally.now) place -ℤ pos
+            (at self.now.target.now place) }
     {
         self.final_number(place) - i64::from(self.wanted(place))
     }

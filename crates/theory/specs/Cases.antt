@@ -1,5 +1,6 @@
 -- Small nets with known verdicts: the rule and trying every order against what was worked out by hand.
-use Rattle.std.specs.Prelude.{◌≡◌, ℕ, zero, suc, Bool, if◌then◌else◌, not, ◌&&◌, List, [], ◌∷◌, map, ℤ, pos, negsuc, Some, None, Option, nat_lt, slice_index_or}
+use Rattle.std.specs.Prelude.{◌≡◌, ℕ, zero, suc, Bool, if◌then◌else◌, not, ◌&&◌, List, []}
+use Rattle.std.specs.Prelude.{◌∷◌, map, ℤ, pos, negsuc, Some, None, Option, nat_lt, slice_index_or}
 use Rattle.std.specs.Option.{option_or, option_map}
 use Rattle.theory.specs.Nets.{NetMeaning}
 use Rattle.theory.specs.Rows.{at, row_of}
@@ -38,7 +39,8 @@ first_there f (suc n) = option_or (first_there f n) (f n)
 abbrev pub try_all : NetMeaning → Marking → Tally → ℕ → Option (List ℕ)
 try_all N m x zero = Some []
 try_all N m x (suc n) =
-    first_there (λ t. if ready N m x t then option_map (λ ts. t ∷ ts) (try_all N (fired N m t) (less x t) n) else None) N.steps
+    first_there (λ t. if ready N m x t then option_map (λ ts. t ∷ ts)
+    (try_all N (fired N m t) (less x t) n) else None) N.steps
 
 abbrev pub by_trying : NetMeaning → Marking → Tally → Option (List ℕ)
 by_trying N m x = try_all N m x (steps_asked N x)
@@ -80,7 +82,14 @@ outcome c = record {
 
 -- a tally that can be done: the rule and trying find the same order
 abbrev pub done : List ℕ → List ℤ → List ℕ → Outcome
-done order finals any = record { rule = done_by order; trying = Some order; finals = finals; firing_any = any; whole_net = None }
+done order finals any = record {
+  rule = done_by order;
+  trying = Some order;
+  finals = finals;
+  firing_any =
+      any;
+  whole_net = None;
+}
 
 -- one that cannot: no order is found by trying
 abbrev pub cannot : Verdict → List ℤ → List ℕ → Option ℕ → Outcome
@@ -96,7 +105,8 @@ net_of places steps inputs yields =
 
 -- from place 0 a block leaves for place 2 by step 0, or makes a detour over place 1 by steps 1 and 2
 abbrev pub detour : NetMeaning
-detour = net_of 3 3 (0 ∷ 0 ∷ 1 ∷ []) ((0 ∷ 0 ∷ 1 ∷ []) ∷ (0 ∷ 1 ∷ 0 ∷ []) ∷ (1 ∷ 0 ∷ 0 ∷ []) ∷ [])
+detour = net_of 3 3 (0 ∷ 0 ∷ 1 ∷ []) ((0 ∷ 0 ∷ 1 ∷ []) ∷ (0 ∷ 1 ∷ 0 ∷ [])
+    ∷ (1 ∷ 0 ∷ 0 ∷ []) ∷ [])
 
 -- one place and one step, which puts back two blocks for each that it takes
 abbrev pub doubler : NetMeaning
@@ -106,13 +116,15 @@ doubler = net_of 1 1 (0 ∷ []) ((2 ∷ []) ∷ [])
 abbrev pub lock : NetMeaning
 lock =
     net_of 3 6 (0 ∷ 0 ∷ 1 ∷ 1 ∷ 2 ∷ 2 ∷ [])
-    ((0 ∷ 1 ∷ 0 ∷ []) ∷ (0 ∷ 1 ∷ 0 ∷ []) ∷ (0 ∷ 0 ∷ 1 ∷ []) ∷ (0 ∷ 0 ∷ 1 ∷ []) ∷ (1 ∷ 0 ∷ 0 ∷ []) ∷ (1 ∷ 0 ∷ 0 ∷ []) ∷ [])
+    ((0 ∷ 1 ∷ 0 ∷ []) ∷ (0 ∷ 1 ∷ 0 ∷ []) ∷ (0 ∷ 0 ∷ 1 ∷ []) ∷ (0 ∷ 0 ∷ 1 ∷ [])
+    ∷ (1 ∷ 0 ∷ 0 ∷ []) ∷ (1 ∷ 0 ∷ 0 ∷ []) ∷ [])
 
 -- step 0 goes from 0 to 1, step 1 back; steps 2 and 3 go between 2 and 3 alike; step 4 leads from 0 to 2
 abbrev pub two_rings : NetMeaning
 two_rings =
     net_of 4 5 (0 ∷ 1 ∷ 2 ∷ 3 ∷ 0 ∷ [])
-    ((0 ∷ 1 ∷ 0 ∷ 0 ∷ []) ∷ (1 ∷ 0 ∷ 0 ∷ 0 ∷ []) ∷ (0 ∷ 0 ∷ 0 ∷ 1 ∷ []) ∷ (0 ∷ 0 ∷ 1 ∷ 0 ∷ []) ∷ (0 ∷ 0 ∷ 1 ∷ 0 ∷ []) ∷ [])
+    ((0 ∷ 1 ∷ 0 ∷ 0 ∷ []) ∷ (1 ∷ 0 ∷ 0 ∷ 0 ∷ []) ∷ (0 ∷ 0 ∷ 0 ∷ 1 ∷ [])
+    ∷ (0 ∷ 0 ∷ 1 ∷ 0 ∷ []) ∷ (0 ∷ 0 ∷ 1 ∷ 0 ∷ []) ∷ [])
 
 -- step 0 takes from 0 and yields nothing; step 1 goes from 0 to 1, step 2 back
 abbrev pub purge : NetMeaning
@@ -128,15 +140,18 @@ spring = net_of 2 2 (0 ∷ 0 ∷ []) ((0 ∷ 1 ∷ []) ∷ (1 ∷ 2 ∷ []) ∷ 
 
 -- step 0 goes from 0 to 1, step 1 from 1 back to 0, step 2 from 0 to 2
 abbrev pub return : NetMeaning
-return = net_of 3 3 (0 ∷ 1 ∷ 0 ∷ []) ((0 ∷ 1 ∷ 0 ∷ []) ∷ (1 ∷ 0 ∷ 0 ∷ []) ∷ (0 ∷ 0 ∷ 1 ∷ []) ∷ [])
+return = net_of 3 3 (0 ∷ 1 ∷ 0 ∷ []) ((0 ∷ 1 ∷ 0 ∷ []) ∷ (1 ∷ 0 ∷ 0 ∷ [])
+    ∷ (0 ∷ 0 ∷ 1 ∷ []) ∷ [])
 
 -- step 0 takes from 0 and yields 1 at 1 and at 2; steps 1 and 2 lead back from there
 abbrev pub fork : NetMeaning
-fork = net_of 3 3 (0 ∷ 1 ∷ 2 ∷ []) ((0 ∷ 1 ∷ 1 ∷ []) ∷ (1 ∷ 0 ∷ 0 ∷ []) ∷ (1 ∷ 0 ∷ 0 ∷ []) ∷ [])
+fork = net_of 3 3 (0 ∷ 1 ∷ 2 ∷ []) ((0 ∷ 1 ∷ 1 ∷ []) ∷ (1 ∷ 0 ∷ 0 ∷ [])
+    ∷ (1 ∷ 0 ∷ 0 ∷ []) ∷ [])
 
 -- step 0 goes from 2 to 3, step 1 from 1 to 2, step 2 from 0 to 1
 abbrev pub chain : NetMeaning
-chain = net_of 4 3 (2 ∷ 1 ∷ 0 ∷ []) ((0 ∷ 0 ∷ 0 ∷ 1 ∷ []) ∷ (0 ∷ 0 ∷ 1 ∷ 0 ∷ []) ∷ (0 ∷ 1 ∷ 0 ∷ 0 ∷ []) ∷ [])
+chain = net_of 4 3 (2 ∷ 1 ∷ 0 ∷ []) ((0 ∷ 0 ∷ 0 ∷ 1 ∷ []) ∷ (0 ∷ 0 ∷ 1 ∷ 0 ∷ [])
+    ∷ (0 ∷ 1 ∷ 0 ∷ 0 ∷ []) ∷ [])
 
 -- two places and no step
 abbrev pub still : NetMeaning
@@ -197,7 +212,8 @@ the_leading_step_in_the_tally_joins_the_rings = record {
   net = two_rings;
   start = 1 ∷ 0 ∷ 0 ∷ 0 ∷ [];
   tally = 1 ∷ 1 ∷ 1 ∷ 1 ∷ 1 ∷ [];
-  expected = done (0 ∷ 1 ∷ 4 ∷ 2 ∷ 3 ∷ []) (pos 0 ∷ pos 0 ∷ pos 1 ∷ pos 0 ∷ []) (0 ∷ 1 ∷ 4 ∷ 2 ∷ 3 ∷ []);
+  expected = done (0 ∷ 1 ∷ 4 ∷ 2 ∷ 3 ∷ []) (pos 0 ∷ pos 0 ∷ pos 1 ∷ pos 0 ∷ [])
+      (0 ∷ 1 ∷ 4 ∷ 2 ∷ 3 ∷ []);
 }
 
 abbrev pub a_gain_at_the_own_input_needs_a_block_first : Case
@@ -245,7 +261,8 @@ yields_above_one_add_up = record {
   net = tripler;
   start = 1 ∷ 0 ∷ [];
   tally = 2 ∷ 4 ∷ [];
-  expected = done (0 ∷ 1 ∷ 0 ∷ 1 ∷ 1 ∷ 1 ∷ []) (pos 3 ∷ pos 2 ∷ []) (0 ∷ 1 ∷ 0 ∷ 1 ∷ 1 ∷ 1 ∷ []);
+  expected = done (0 ∷ 1 ∷ 0 ∷ 1 ∷ 1 ∷ 1 ∷ []) (pos 3 ∷ pos 2 ∷ [])
+      (0 ∷ 1 ∷ 0 ∷ 1 ∷ 1 ∷ 1 ∷ []);
 }
 
 abbrev pub a_step_that_gives_its_block_back_goes_before_the_last : Case

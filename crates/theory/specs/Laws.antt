@@ -1,8 +1,10 @@
 -- The theorems. They ask of a net only that each step takes its block inside it; a step may yield nothing.
-use Rattle.std.specs.Prelude.{◌≡◌, ℕ, ◌+◌, ◌-◌, ◌<◌, Bool, true, false, ◌⊎◌, ◌↔◌, List, [], ◌∷◌, ◌++◌, length, pos, ◌<ℤ◌, Some, None, IsTrue, ◌≢◌}
+use Rattle.std.specs.Prelude.{◌≡◌, ℕ, ◌+◌, ◌-◌, ◌<◌, Bool, true, false, ◌⊎◌, ◌↔◌}
+use Rattle.std.specs.Prelude.{List, [], ◌∷◌, ◌++◌, length, pos, ◌<ℤ◌, Some, None, IsTrue, ◌≢◌}
 use Rattle.theory.specs.Nets.{NetMeaning, InputsInside}
 use Rattle.theory.specs.Firing.{Marking, fired, CanFire, after, times}
-use Rattle.theory.specs.Tallies.{Tally, Realizes, Realizable, final_number, IsShort, InSubnet, IsReached, IsCutOff, NoPlaceShort, NoPlaceCutOff}
+use Rattle.theory.specs.Tallies.{Tally, Realizes, Realizable, final_number, IsShort, InSubnet, IsReached, IsCutOff}
+use Rattle.theory.specs.Tallies.{NoPlaceShort, NoPlaceCutOff}
 use Rattle.theory.specs.Orders.{Earlier, First, less, IsSafe, LeastSafeEachTime}
 use Rattle.theory.specs.Tests.{least, is_short, in_subnet, is_reached, is_cut_off, can_be_done, is_safe, first_order}
 
@@ -36,7 +38,8 @@ SafeStepExists =
 -- an order in which each step is the least safe one, when its turn comes, is the first
 abbrev pub LeastSafeIsFirst : Type 0
 LeastSafeIsFirst =
-    (N : NetMeaning) (m : Marking) (x : Tally) (order : List ℕ) → LeastSafeEachTime N m x order → First N m x order
+    (N : NetMeaning) (m : Marking) (x : Tally) (order : List ℕ) → LeastSafeEachTime N m x order →
+    First N m x order
 
 -- the computed order does so, for every tally that can be done
 abbrev pub ComputedIsLeastSafe : Type 0
@@ -47,23 +50,27 @@ ComputedIsLeastSafe =
 -- so it is the first order
 abbrev pub ComputedIsFirst : Type 0
 ComputedIsFirst =
-    (N : NetMeaning) → InputsInside N → (m : Marking) (x : Tally) → Realizable N m x → First N m x (first_order N m x)
+    (N : NetMeaning) → InputsInside N → (m : Marking) (x : Tally) → Realizable N m x →
+    First N m x (first_order N m x)
 
 -- there is one first order
 abbrev pub FirstIsOne : Type 0
 FirstIsOne =
-    (N : NetMeaning) (m : Marking) (x : Tally) (order other : List ℕ) → First N m x order → First N m x other → order ≡ other
+    (N : NetMeaning) (m : Marking) (x : Tally) (order other : List ℕ) → First N m x order →
+    First N m x other → order ≡ other
 
 -- the first order goes on from its first step: the least safe step, then the first order of the rest after it
 abbrev pub FirstOrderGoesOn : Type 0
 FirstOrderGoesOn =
-    (N : NetMeaning) → InputsInside N → (m : Marking) (x : Tally) (t : ℕ) → IsSafe N m x t → ((u : ℕ) → u < t → IsSafe N m x u → ⊥) →
+    (N : NetMeaning) → InputsInside N → (m : Marking) (x : Tally) (t : ℕ) → IsSafe N m x t →
+    ((u : ℕ) → u < t → IsSafe N m x u → ⊥) →
     first_order N m x ≡ t ∷ first_order N (fired N m t) (less x t)
 
 -- and ends where no step is left
 abbrev pub FirstOrderEnds : Type 0
 FirstOrderEnds =
-    (N : NetMeaning) (m : Marking) (x : Tally) → ((t : ℕ) → t < N.steps → x t ≡ 0) → first_order N m x ≡ []
+    (N : NetMeaning) (m : Marking) (x : Tally) → ((t : ℕ) → t < N.steps → x t ≡ 0) →
+    first_order N m x ≡ []
 
 -- HOW A SAFE STEP IS FOUND
 
@@ -86,7 +93,8 @@ SafeByItsInput =
 pub record ClosedSet (N : NetMeaning) (m : Marking) (x : Tally) (set : ℕ → Bool) : Type 0 where
   pub has_marked : (p : ℕ) → p < N.places → 0 < m p → set p ≡ true
   pub has_reached_only : (p : ℕ) → p < N.places → set p ≡ true → IsReached N m x p
-  pub closed : (t p : ℕ) → t < N.steps → 0 < x t → set (N.input t) ≡ true → p < N.places → 0 < N.yields t p → set p ≡ true
+  pub closed : (t p : ℕ) → t < N.steps → 0 < x t → set (N.input t) ≡ true → p < N.places →
+      0 < N.yields t p → set p ≡ true
 
 -- so any way to find such a set finds the reached places
 abbrev pub ClosedSetIsReached : Type 0
@@ -133,7 +141,8 @@ CutOffDecided =
 -- a tally that can be done
 abbrev pub DoneDecided : Type 0
 DoneDecided =
-    (N : NetMeaning) → InputsInside N → (m : Marking) (x : Tally) → IsTrue (can_be_done N m x) ↔ Realizable N m x
+    (N : NetMeaning) → InputsInside N → (m : Marking) (x : Tally) →
+    IsTrue (can_be_done N m x) ↔ Realizable N m x
 
 -- a safe step, where no place is short
 abbrev pub SafeDecided : Type 0

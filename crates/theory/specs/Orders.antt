@@ -27,4 +27,5 @@ IsSafe N m x t = (t < N.steps) × (0 < x t) × (0 < m (N.input t)) × Realizable
 abbrev pub LeastSafeEachTime : NetMeaning → Marking → Tally → List ℕ → Type 0
 LeastSafeEachTime N m x [] = (t : ℕ) → t < N.steps → x t ≡ 0
 LeastSafeEachTime N m x (t ∷ ts) =
-    IsSafe N m x t × ((u : ℕ) → u < t → IsSafe N m x u → ⊥) × LeastSafeEachTime N (fired N m t) (less x t) ts
+    IsSafe N m x t × ((u : ℕ) → u < t → IsSafe N m x u → ⊥)
+    × LeastSafeEachTime N (fired N m t) (less x t) ts

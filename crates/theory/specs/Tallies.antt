@@ -43,7 +43,8 @@ InSubnet N x p = (t : ℕ) × (t < N.steps) × (0 < x t) × ((N.input t ≡ p) �
 -- p is reached: p is marked, or the tally's steps, as arrows from input to yields, lead there from a marked place
 pub data IsReached (N : NetMeaning) (m : Marking) (x : Tally) : ℕ → Type 0 where
   marked : {p : ℕ} → 0 < m p → IsReached N m x p
-  through : {p : ℕ} (t : ℕ) → t < N.steps → 0 < x t → IsReached N m x (N.input t) → 0 < N.yields t p → IsReached N m x p
+  through : {p : ℕ} (t : ℕ) → t < N.steps → 0 < x t → IsReached N m x (N.input t) →
+      0 < N.yields t p → IsReached N m x p
 
 -- p is cut off: steps of the tally use it, and no block can come there by them (it lies in an unmarked siphon)
 abbrev pub IsCutOff : NetMeaning → Marking → Tally → ℕ → Type 0

@@ -1,5 +1,6 @@
 -- Tests that compute: which places are short, reached and cut off, which steps are safe; and the first order.
-use Rattle.std.specs.Prelude.{ℕ, zero, suc, ◌+◌, Bool, true, false, if◌then◌else◌, not, ◌&&◌, ◌||◌, List, [], ◌∷◌, Some, None, Option, ◌==◌, nat_lt}
+use Rattle.std.specs.Prelude.{ℕ, zero, suc, ◌+◌, Bool, true, false, if◌then◌else◌, not, ◌&&◌}
+use Rattle.std.specs.Prelude.{◌||◌, List, [], ◌∷◌, Some, None, Option, ◌==◌, nat_lt}
 use Rattle.std.specs.Option.{option_or}
 use Rattle.theory.specs.Nets.{NetMeaning}
 use Rattle.theory.specs.Firing.{Marking, fired}
@@ -33,7 +34,8 @@ in_subnet N x p = any_below (λ t. nat_lt 0 (x t) && (N.input t == p || nat_lt 0
 abbrev pub reach : NetMeaning → Marking → Tally → ℕ → ℕ → Bool
 reach N m x zero p = nat_lt 0 (m p)
 reach N m x (suc k) p =
-    reach N m x k p || any_below (λ t. nat_lt 0 (x t) && (nat_lt 0 (N.yields t p) && reach N m x k (N.input t))) N.steps
+    reach N m x k p || any_below (λ t. nat_lt 0 (x t)
+    && (nat_lt 0 (N.yields t p) && reach N m x k (N.input t))) N.steps
 
 -- p is reached: no path need be tried that has more steps than the net has places
 abbrev pub is_reached : NetMeaning → Marking → Tally → ℕ → Bool

@@ -7,11 +7,14 @@
 ghost use Rattle.std.specs.Prelude.{◌≡◌};
 ghost use Rattle.theory.specs.Cases.{CasesHold};
 ghost use Rattle.theory.specs.Laws.{DoneExactlyIf, EndsAtFinalNumbers, ShortBelowZero};
-ghost use Rattle.theory.specs.Laws.{SafeStepExists, LeastSafeIsFirst, ComputedIsLeastSafe, ComputedIsFirst, FirstIsOne, FirstOrderGoesOn, FirstOrderEnds};
+ghost use Rattle.theory.specs.Laws.{SafeStepExists, LeastSafeIsFirst, ComputedIsLeastSafe, ComputedIsFirst};
+ghost use Rattle.theory.specs.Laws.{FirstIsOne, FirstOrderGoesOn, FirstOrderEnds};
 ghost use Rattle.theory.specs.Laws.{FiringKeepsFinalNumbers, SafeByItsInput, ClosedSetIsReached};
 ghost use Rattle.theory.specs.Laws.{EarlierOneWay, EarlierGoesOn, EarlierCompares};
-ghost use Rattle.theory.specs.Laws.{ShortDecided, SubnetDecided, ReachedDecided, CutOffDecided, DoneDecided, SafeDecided, LeastFound, NoneFound};
-ghost use Rattle.theory.specs.Laws.{CanFireAppended, AfterAppended, TimesAppended, RealizesAppended, FinalNumbersAppended, FrontIsFirst, RestIsFirst};
+ghost use Rattle.theory.specs.Laws.{ShortDecided, SubnetDecided, ReachedDecided, CutOffDecided, DoneDecided};
+ghost use Rattle.theory.specs.Laws.{SafeDecided, LeastFound, NoneFound};
+ghost use Rattle.theory.specs.Laws.{CanFireAppended, AfterAppended, TimesAppended, RealizesAppended};
+ghost use Rattle.theory.specs.Laws.{FinalNumbersAppended, FrontIsFirst, RestIsFirst};
 ghost use Rattle.theory.specs.Laws.{AgreeingExchanged};
 
 /// Which tallies (Parikh vectors) some order (firing sequence) does: those that leave no place short and

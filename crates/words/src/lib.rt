@@ -54,7 +54,8 @@ pub fn numbers<T: FromStr + Drop, E: From<T::Err> + From<AllocError> + Drop>(
     words: &[&str],
 ) -> Result<Vec<T>, E>
     ensures count { IfOk result (λ all. length all.items ≡ length words.now) }
-    ensures each { IfOk result (λ all. (k : ℕ) (word : _) (number : T) → k < length words.now → T.from_str_gives (slice_index_or words.now k word).now (Ok (slice_index_or all.items k number))) }
+    ensures each { IfOk result (λ all. (k : ℕ) (word : _) (number : T) → k < length words.now →
+        T.from_str_gives (slice_index_or words.now k word).now (Ok (slice_index_or all.items k number))) }
 {
     words
         .iter()
@@ -75,8 +76,10 @@ pub fn bytes_of(alloc: Global, digits: &str) -> anyhow::Result<Vec<u8>>
 
 /// The bytes of a file that hexadecimal digits write down; none for `-`.
 pub fn file_of(alloc: Global, digits: &str) -> anyhow::Result<Vec<u8>>
-    ensures bytes { IfOk result (λ file. ((digits.now ≡ codes "-") × (file.items ≡ [])) ⊎ (decode_of digits.now ≡ Ok file.items)) }
-    ensures lower { IfOk result (λ file. ((digits.now ≡ codes "-") × (file.items ≡ [])) ⊎ (digits.now ≡ encode_lower file.items)) }
+    ensures bytes { IfOk result (λ file. ((digits.now ≡ codes "-") × (file.items ≡ []))
+        ⊎ (decode_of digits.now ≡ Ok file.items)) }
+    ensures lower { IfOk result (λ file. ((digits.now ≡ codes "-") × (file.items ≡ []))
+        ⊎ (digits.now ≡ encode_lower file.items)) }
 {
     if digits == "-" {
         return Ok(Vec::new(alloc));
