@@ -5,14 +5,14 @@ use crate::names::{one_line, read_back};
 const NAMES: &[(&[u8], &str)] = &[
     (b"lock.sheet", "lock.sheet"),
     (b"it's \"mine\"", "it's \"mine\""),
-    ("M\u{fc}ller \u{1f512}".as_bytes(), "M\u{fc}ller \u{1f512}"),
+    (b"M\xc3\xbcller \xf0\x9f\x94\x92", "M\u{fc}ller \u{1f512}"),
     (b"M\xfcller", "M\\xfcller"),
     (b"M\xc3\xbc\xff", "M\\xc3\\xbc\\xff"),
     (b"M\\xfcller", "M\\\\xfcller"),
     (b"anna: ok 1\nbert", "anna: ok 1\\nbert"),
     (b"\t\r\x1b[31m\x7f\0", "\\t\\x0d\\x1b[31m\\x7f\\x00"),
     (
-        "\u{202e}a\u{85}\u{2028}".as_bytes(),
+        b"\xe2\x80\xaea\xc2\x85\xe2\x80\xa8",
         "\\xe2\\x80\\xaea\\xc2\\x85\\xe2\\x80\\xa8",
     ),
     (b"", ""),
@@ -37,7 +37,7 @@ fn every_byte_is_read_back(rt: HostRuntime) -> anyhow::Result<()> {
             let line = one_line(rt.alloc(), &name)?;
             assert!(rt; line.bytes().all(|shown| shown >= b' '));
             let read = read_back(rt.alloc(), line.as_str())?;
-            assert!(rt; read.is_some_and(|bytes| bytes.as_slice() == &name));
+            assert!(rt; read.is_some_and(|bytes| bytes.as_slice() == name.as_slice()));
         }
     }
     Ok(())
