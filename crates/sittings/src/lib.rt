@@ -1,4 +1,4 @@
-//! Sittings: one net, one board and one done row, with the calls fire, resume and survey.
+//! Sittings: work with a net on a board, one step or a whole tally at a time, and the counters of it.
 #![tactic(auto)]
 
 mod done_rows;

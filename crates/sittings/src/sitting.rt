@@ -1,4 +1,4 @@
-//! A sitting: one net, one board and one done row, and its calls fire, resume and survey.
+//! A sitting, and its calls: `fire` does a step, `resume` a tally, `survey` says what stands in the way of one.
 ghost use Rattle.answers.specs.Answers.{fire_refusal, fire_answer, after_fire, resume_refusal, resume_answer};
 ghost use Rattle.answers.specs.Answers.{after_resume, order_memory, unless};
 ghost use Rattle.answers.specs.Findings.{survey_answer, findings_memory};
