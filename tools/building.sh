@@ -317,12 +317,12 @@ run_bench() {
     out=$here/bench/out
     mkdir -p -- "$out" || fail "there is no room for $out"
     log=$out/library.log
-    (cd -- "$here/crates/c_calls" && rt lib >"$log" 2>&1) ||
+    (cd -- "$here/crates/c_library" && rt lib >"$log" 2>&1) ||
         { cat "$log" >&2; fail "the static library could not be built; what the toolchain said is above"; }
     for_all="--edition 2024 -C opt-level=3 -C target-cpu=x86-64-v2"
     rustc $for_all --crate-type rlib --crate-name plain -o "$out/libplain.rlib" "$here/bench/plain/lib.rs" ||
         fail "the plain Rust could not be built"
     rustc $for_all --crate-name bench --extern plain="$out/libplain.rlib" -L native="$here/crates/c_library/out" \
-        -l static=c_calls -o "$out/bench" "$here/bench/harness/main.rs" || fail "the timing could not be built"
+        -l static=c_library -o "$out/bench" "$here/bench/harness/main.rs" || fail "the timing could not be built"
     exec "$out/bench" "$@"
 }
