@@ -8,8 +8,6 @@ use layers::{Allowance, Renaming};
 use std::marker::PhantomData;
 
 /// What a pile makes of the lines that are left, by how many layers it still takes.
-/// It stands in each of three programs: what they do with the lines between two layers differs, and a shared
-/// one would be no plainer.
 pub(crate) trait OnPile {
     fn run<B: Board + Drop>(
         desk: &mut Desk<'_>,

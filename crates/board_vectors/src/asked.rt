@@ -1,7 +1,7 @@
 //! What the lines of the table ask for.
 use board_calls::Call;
 use std::alloc::Global;
-use words::{Fault, numbers, slots_of, understood};
+use words::{numbers, slots_of, understood};
 
 /// What is asked of a pile, or of a board before any layer is over it.
 #[derive(Drop)]
@@ -19,7 +19,7 @@ pub(crate) fn read(alloc: Global, asked: &str) -> anyhow::Result<Option<Asked>> 
     let Some((word, row)) = words.as_slice().split_first() else {
         return Ok(None);
     };
-    let Some(row) = understood(numbers::<u32, Fault>(alloc, row))? else {
+    let Some(row) = understood(numbers::<u32>(alloc, row))? else {
         return Ok(None);
     };
     let asked = match (*word, row.as_slice()) {

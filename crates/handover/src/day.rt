@@ -5,12 +5,13 @@ use crate::faults::{Fault, Unfit};
 use crate::lines;
 use crate::lines::{Line, Sizes, Yield};
 use crate::net_file::NetFile;
+use crate::numbers::words_of;
 use crate::piles::SecondBoard;
-use crate::words::{code, words};
 use answers::{DONE_LIMIT, FINDINGS_NEEDED};
 use anyhow::anyhow;
 use handovers::OwnedCall;
 use std::alloc::Global;
+use words::code_of;
 
 /// How many entries memory has before a line says another number: as many as any order has, and as many
 /// as a survey asks for. A constant's value calls no `try_from`, so both are cast: they are proved to fit.
@@ -49,7 +50,7 @@ impl<'a> Day<'a> {
     pub(crate) fn read(alloc: Global, text: &'a str) -> anyhow::Result<Day<'a>> {
         let mut day = Day::new(alloc);
         for (before, line) in text.lines().enumerate() {
-            if let Err(fault) = day.read_line(code(line)) {
+            if let Err(fault) = day.read_line(code_of(line)) {
                 let number = before.saturating_add(1);
                 return Err(anyhow!(format!(in alloc; "line {number}: {fault}")?));
             }
@@ -70,7 +71,7 @@ impl<'a> Day<'a> {
     }
 
     fn read_line(&mut self, code: &'a str) -> Result<(), Fault<'a>> {
-        let words = words(self.alloc, code)?;
+        let words = words_of(self.alloc, code)?;
         let Some((first, rest)) = words.as_slice().split_first() else {
             return Ok(());
         };

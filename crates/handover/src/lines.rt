@@ -1,10 +1,10 @@
 //! The lines of a hand-over file: what each one says.
 use crate::faults::Fault;
-use crate::words::{number_of, numbers_of, only_number};
+use crate::numbers::{number_in, numbers_in, only_number};
 use answers::Kind;
-use boards::LAST_PLACE;
 use handovers::{OwnedCall, OwnedRequest};
 use std::alloc::Global;
+use words::renaming_of;
 
 /// How many blocks a step puts down at a place.
 #[derive(Clone, Copy)]
@@ -46,8 +46,8 @@ pub(crate) fn read<'a>(
     match first {
         "places" => Ok(Line::Places(only_number(rest, "places N")?)),
         "step" => step(alloc, rest),
-        "start" => Ok(Line::Start(numbers_of(alloc, rest)?)),
-        "rename" => renaming(alloc, rest),
+        "start" => Ok(Line::Start(numbers_in(alloc, rest)?)),
+        "rename" => Ok(Line::Rename(renaming_of(numbers_in(alloc, rest)?)?)),
         "fire" => Ok(Line::Call(OwnedCall::Fire(only_number(rest, "fire T")?))),
         "resume" => Ok(Line::Call(OwnedCall::Resume(request(alloc, rest, sizes.order)?))),
         "survey" => Ok(Line::Call(OwnedCall::Survey(request(alloc, rest, sizes.findings)?))),
@@ -66,21 +66,12 @@ fn setting<'a>(first: &'a str, rest: &[&'a str]) -> Result<Line, Fault<'a>> {
     }
 }
 
-/// A renaming: what each place stands for; a place without a number stands for itself.
-fn renaming<'a>(alloc: Global, words: &[&'a str]) -> Result<Line, Fault<'a>> {
-    let mut row = numbers_of(alloc, words)?;
-    // `board` has this line too: a function for both would be no plainer, as its clause would only repeat those of
-    // `extend` and `skip`.
-    row.extend((0..=LAST_PLACE).skip(row.len()))?;
-    Ok(Line::Rename(row))
-}
-
 /// A step: where it takes, and what it yields.
 fn step<'a>(alloc: Global, words: &[&'a str]) -> Result<Line, Fault<'a>> {
     let ["from", input, "yields", rest @ ..] = words else {
         return Err(Fault::Form(STEP));
     };
-    let input = number_of(*input)?;
+    let input = number_in(*input)?;
     let mut yields = Vec::new(alloc);
     for part in rest.chunks(3) {
         yields.push(yield_of(part)?)?;
@@ -91,8 +82,8 @@ fn step<'a>(alloc: Global, words: &[&'a str]) -> Result<Line, Fault<'a>> {
 fn yield_of<'a>(words: &[&'a str]) -> Result<Yield, Fault<'a>> {
     match words {
         [blocks, "at", place] => Ok(Yield {
-            blocks: number_of(*blocks)?,
-            place: number_of(*place)?,
+            blocks: number_in(*blocks)?,
+            place: number_in(*place)?,
         }),
         _ => Err(Fault::Form(STEP)),
     }
@@ -104,8 +95,8 @@ fn request<'a>(alloc: Global, words: &[&'a str], memory: u16) -> Result<OwnedReq
         .find_map(|end| parts_at(words, end))
         .ok_or(Fault::NoTarget)?;
     Ok(OwnedRequest {
-        tally: numbers_of(alloc, tally)?,
-        numbers: numbers_of(alloc, row)?,
+        tally: numbers_in(alloc, tally)?,
+        numbers: numbers_in(alloc, row)?,
         kind: kind.into(),
         memory: usize::from(memory),
     })

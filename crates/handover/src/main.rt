@@ -5,10 +5,10 @@ mod day;
 mod faults;
 mod lines;
 mod net_file;
+mod numbers;
 mod options;
 mod piles;
 mod report;
-mod words;
 
 use command_line::{Failure, end, only_source, words};
 use day::Day;

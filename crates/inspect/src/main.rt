@@ -10,6 +10,7 @@ use options::{PROGRAM, command};
 use refusals::Refusal;
 use std::io;
 use std::process::ExitCode;
+use words::Make;
 
 /// How much of a file is read: a byte more than any net of its make has. A longer one is refused for its length where
 /// its head is not refused before, and so are its first bytes, since no head tells so many.
@@ -20,7 +21,7 @@ const CHAINED_BYTES: u64 = 4_481;
 /// Shows the net of a file, or why the file is refused; true where it is accepted.
 fn show<'a, N: Net + TryFrom<&'a [u8], Error = Refusal> + Drop>(
     rt: &HostRuntime,
-    make: &str,
+    make: Make,
     file: &'a [u8],
 ) -> io::Result<bool> {
     match N::try_from(file) {
@@ -36,11 +37,10 @@ fn show<'a, N: Net + TryFrom<&'a [u8], Error = Refusal> + Drop>(
 }
 
 /// Shows one file, maybe under its name; true where it is accepted.
-fn inspect(rt: &HostRuntime, make: &str, source: &Source, titled: bool) -> Result<bool, Failure> {
-    let most = if make == "grid" {
-        GRID_BYTES
-    } else {
-        CHAINED_BYTES
+fn inspect(rt: &HostRuntime, make: Make, source: &Source, titled: bool) -> Result<bool, Failure> {
+    let most = match make {
+        Make::Grid => GRID_BYTES,
+        Make::Chained => CHAINED_BYTES,
     };
     let name = source.shown.as_str();
     let file = match source.read(rt, PROGRAM, most) {
@@ -53,15 +53,15 @@ fn inspect(rt: &HostRuntime, make: &str, source: &Source, titled: bool) -> Resul
     if titled {
         println!(rt; "{name}:")?;
     }
-    if make == "grid" {
-        Ok(show::<GridNet>(rt, make, file.as_slice())?)
-    } else {
-        Ok(show::<ChainedNet>(rt, make, file.as_slice())?)
-    }
+    let accepted = match make {
+        Make::Grid => show::<GridNet>(rt, make, file.as_slice())?,
+        Make::Chained => show::<ChainedNet>(rt, make, file.as_slice())?,
+    };
+    Ok(accepted)
 }
 
 /// Shows each file, under its name where there are several; true where all are accepted.
-fn inspect_all(rt: &HostRuntime, make: &str, sources: &[Source]) -> Result<bool, Failure> {
+fn inspect_all(rt: &HostRuntime, make: Make, sources: &[Source]) -> Result<bool, Failure> {
     let mut all = true;
     for source in sources {
         all = inspect(rt, make, source, sources.len() > 1)? && all;
@@ -72,7 +72,8 @@ fn inspect_all(rt: &HostRuntime, make: &str, sources: &[Source]) -> Result<bool,
 fn run(rt: &HostRuntime) -> Result<ExitCode, Failure> {
     let words = words(rt, PROGRAM)?;
     let matches = command(rt.alloc())?.try_get_matches_from(words.as_slice())?;
-    let make = matches.get_str("MAKE").unwrap_or("");
+    // `command` lets nothing pass that is no make.
+    let make = matches.get_one::<Make>("MAKE").unwrap_or(Make::Grid);
     let mut sources = sources(rt.alloc(), matches.get_strs("FILE").unwrap_or(&[]))?;
     if sources.is_empty() {
         sources.push(Source::input(rt.alloc())?)?;

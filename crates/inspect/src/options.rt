@@ -1,6 +1,7 @@
 //! The command line of the program.
 use clap::{Arg, Command};
 use std::alloc::Global;
+use words::MAKES;
 
 /// The program as its user calls it.
 pub(crate) const PROGRAM: &str = "zaldrum inspect";
@@ -14,8 +15,6 @@ Example: zaldrum inspect grid lock.grid
 
 Exit status: 0 if each file is accepted; 1 if one is refused or could not be read, and the others are shown all the
 same; 2 if the command line is not understood.";
-
-const MAKES: &[&str] = &["grid", "chained"];
 
 pub(crate) fn command<'a>(alloc: Global) -> Result<Command<'a>, clap::Error> {
     let make = Arg::new(alloc, "MAKE")

@@ -3,6 +3,7 @@ use nets::Net;
 use std::alloc::{AllocError, Global};
 use std::fmt::Write;
 use std::io;
+use words::Make;
 
 /// The yields of a step in words, as `1 at 2, 3 at 5`.
 fn yields<N: Net>(alloc: Global, net: &N, step: u16) -> Result<String, AllocError> {
@@ -18,7 +19,7 @@ fn yields<N: Net>(alloc: Global, net: &N, step: u16) -> Result<String, AllocErro
 }
 
 /// Prints the net.
-pub(crate) fn show<N: Net>(rt: &HostRuntime, make: &str, net: &N) -> io::Result<()> {
+pub(crate) fn show<N: Net>(rt: &HostRuntime, make: Make, net: &N) -> io::Result<()> {
     let places = net.places();
     let steps = net.steps();
     println!(rt; "{make} net: places {places}, steps {steps}")?;

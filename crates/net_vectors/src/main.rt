@@ -10,7 +10,7 @@ use board_calls::Answer;
 use nets::{ChainedNet, GridNet};
 use std::io::{BufRead, BufReader};
 use totals::Totals;
-use words::file_of;
+use words::{Make, file_of};
 
 /// Compares one line of the table with what the net of its file answers.
 fn compare(rt: &HostRuntime, totals: &mut Totals, line: &str) -> anyhow::Result<()> {
@@ -20,10 +20,9 @@ fn compare(rt: &HostRuntime, totals: &mut Totals, line: &str) -> anyhow::Result<
         return Err(anyhow!("a line without three words"));
     };
     let file = file_of(rt.alloc(), digits)?;
-    let answered = match make {
-        "grid" => answers::of_file::<GridNet>(file.as_slice(), &mut totals.grid),
-        "chained" => answers::of_file::<ChainedNet>(file.as_slice(), &mut totals.chained),
-        _ => return Err(anyhow!("an unknown make of net")),
+    let answered = match make.parse::<Make>()? {
+        Make::Grid => answers::of_file::<GridNet>(file.as_slice(), &mut totals.grid),
+        Make::Chained => answers::of_file::<ChainedNet>(file.as_slice(), &mut totals.chained),
     };
     let here = match answered {
         Ok(answers) => answers.to_string(rt.alloc())?,

@@ -2,6 +2,7 @@
 use comparisons::{Comparison, Outcomes, Refused};
 use std::alloc::Global;
 use std::io;
+use words::Make;
 
 /// The refusals of a net file, by number, as they are counted: those of the enum have places and steps with them.
 const OF_FILES: [u8; 6] = [1, 2, 3, 4, 5, 6];
@@ -27,8 +28,8 @@ impl Totals {
 
     /// Prints the counts.
     pub(crate) fn print(&self, rt: &HostRuntime) -> io::Result<()> {
-        print_files(rt, "grid", self.grid)?;
-        print_files(rt, "chained", self.chained)?;
+        print_files(rt, Make::Grid, self.grid)?;
+        print_files(rt, Make::Chained, self.chained)?;
         let refused = self.refused.lines(rt.alloc(), &OF_FILES)?;
         print!(rt; "{refused}")?;
         let differences = self.comparison.differing;
@@ -36,7 +37,7 @@ impl Totals {
     }
 }
 
-fn print_files(rt: &HostRuntime, make: &str, files: Outcomes) -> io::Result<()> {
+fn print_files(rt: &HostRuntime, make: Make, files: Outcomes) -> io::Result<()> {
     let all = files.accepted.saturating_add(files.refused);
     println!(rt; "{make}: {all} files, {files}")
 }

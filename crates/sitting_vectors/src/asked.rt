@@ -4,7 +4,7 @@ use boards::PLACES;
 use std::alloc::Global;
 use std::num::ParseIntError;
 use std::str::FromStr;
-use words::{bytes_of, numbers, slots_of};
+use words::{Make, bytes_of, numbers, slots_of};
 
 /// What a resume or a survey is given, and how long its memory is.
 #[derive(Drop)]
@@ -18,8 +18,7 @@ pub(crate) struct Request {
 
 #[derive(Drop)]
 pub(crate) enum Asked {
-    Grid(Vec<u8>),
-    Chained(Vec<u8>),
+    Net(Make, Vec<u8>),
     Counts(Vec<u32>, u32),
     Slots(Vec<u8>),
     Rename(Vec<u8>),
@@ -48,11 +47,13 @@ pub(crate) fn read(alloc: Global, asked: &str) -> anyhow::Result<Option<Asked>> 
 
 /// A net file, of either make.
 fn net_of(alloc: Global, rest: &str) -> anyhow::Result<Option<Asked>> {
-    match rest.split_once(' ') {
-        Some(("grid", digits)) => Ok(Some(Asked::Grid(bytes_of(alloc, digits)?))),
-        Some(("chained", digits)) => Ok(Some(Asked::Chained(bytes_of(alloc, digits)?))),
-        _ => Ok(None),
-    }
+    let Some((make, digits)) = rest.split_once(' ') else {
+        return Ok(None);
+    };
+    let Ok(make) = make.parse::<Make>() else {
+        return Ok(None);
+    };
+    Ok(Some(Asked::Net(make, bytes_of(alloc, digits)?)))
 }
 
 /// A spare, and counts that are 0 where the line has none.
@@ -91,5 +92,5 @@ fn row_of<T: FromStr<Err = ParseIntError> + Drop>(
     text: &str,
 ) -> anyhow::Result<Vec<T>> {
     let words: Vec<&str> = text.split_whitespace().collect(alloc)?;
-    numbers::<T, anyhow::Error>(alloc, words.as_slice())
+    Ok(numbers::<T>(alloc, words.as_slice())?)
 }

@@ -20,6 +20,7 @@ use refusals::Refusal;
 use slot_board::SlotBoard;
 use std::io;
 use table::Table;
+use words::Make;
 
 type TwoLayers = Under<Under<Full>>;
 
@@ -43,8 +44,12 @@ fn compare<'a>(
     ensures { IfOk result (λ left. IfSome left (λ left. left ≤ length lines.now)) }
 {
     let left = match read(table.alloc(), line.asked)? {
-        Some(Asked::Grid(file)) => on_file::<GridNet>(table, line, lines, file.as_slice())?,
-        Some(Asked::Chained(file)) => on_file::<ChainedNet>(table, line, lines, file.as_slice())?,
+        Some(Asked::Net(Make::Grid, file)) => {
+            on_file::<GridNet>(table, line, lines, file.as_slice())?
+        }
+        Some(Asked::Net(Make::Chained, file)) => {
+            on_file::<ChainedNet>(table, line, lines, file.as_slice())?
+        }
         _ => return Ok(None),
     };
     Ok(Some(left.len()))

@@ -1,2 +1,4 @@
+pub mod Codes
 pub mod Faults
+pub mod Makes
 pub mod Slots

@@ -1,32 +1,32 @@
-//! What stands in rows of words.
+//! What the programs read in lines of words: makes of net, numbers, files, slots and renamings.
 #![tactic(auto)]
 
-ghost use Rattle.std.specs.Prelude.{◌≡◌, ◌<◌, ◌⊎◌, ℕ, Ok, [], codes, length, slice_index_or, IfOk};
+ghost use Rattle.std.specs.Prelude.{◌≡◌, ◌<◌, ◌⊎◌, ℕ, Ok, Err, [], ◌∷◌, codes, length};
+ghost use Rattle.std.specs.Prelude.{slice_index_or, IfOk, List};
 ghost use Rattle.hex.specs.Hex.{decode_of, encode_lower};
+ghost use Rattle.words.specs.Codes.{code_of, renaming_of};
 ghost use Rattle.words.specs.Faults.{understood_of};
 ghost use Rattle.words.specs.Slots.{slots_of};
 ghost use Rattle.words.specs.declared.Fault.{Fault};
 ghost use Rattle.words.specs.declared.Fault.TheVariants.{NotUnderstood, Memory};
 
+mod make;
+
 use anyhow::ensure;
+use boards::LAST_PLACE;
+pub use make::{MAKES, Make, UnknownMake};
 use std::alloc::{AllocError, Global};
 use std::iter::repeat_n;
-use std::num::ParseIntError;
 use std::str::FromStr;
+use thiserror::Error;
 
 /// Why words are not read.
-#[derive(Drop)]
+#[derive(Debug, Drop, Error)]
 pub enum Fault {
+    #[error("a word is not understood")]
     NotUnderstood,
+    #[error("there is no memory left")]
     Memory(AllocError),
-}
-
-impl From<ParseIntError> for Fault {
-    ghost from_gives = { λ error fault. fault ≡ NotUnderstood };
-
-    fn from(_error: ParseIntError) -> Fault {
-        Fault::NotUnderstood
-    }
 }
 
 impl From<AllocError> for Fault {
@@ -48,19 +48,52 @@ pub fn understood<T>(read: Result<T, Fault>) -> Result<Option<T>, AllocError>
     }
 }
 
+/// A line without its comment, which a `#` begins, and the spaces around it.
+pub fn code_of(line: &str) -> &str
+    ensures { result.now ≡ code_of line.now }
+{
+    let code = match line.split_once('#') {
+        Some((code, _)) => code,
+        None => line,
+    };
+    code.trim()
+}
+
+/// A word as a number: digits alone, though `parse` takes a sign before them.
+pub fn number_of<T: FromStr>(word: &str) -> Result<T, Fault>
+where
+    T::Err: Drop,
+    ensures number { IfOk result (λ number. T.from_str_gives word.now (Ok number)) }
+    ensures sign { (rest : List ℕ) → word.now ≡ 43 ∷ rest → result ≡ Err NotUnderstood }
+{
+    if word.starts_with('+') {
+        return Err(Fault::NotUnderstood);
+    }
+    word.parse::<T>().map_err(|_| Fault::NotUnderstood)
+}
+
 /// The words as numbers; an error where one of them is none.
-pub fn numbers<T: FromStr + Drop, E: From<T::Err> + From<AllocError> + Drop>(
-    alloc: Global,
-    words: &[&str],
-) -> Result<Vec<T>, E>
+pub fn numbers<T: FromStr + Drop>(alloc: Global, words: &[&str]) -> Result<Vec<T>, Fault>
+where
+    T::Err: Drop,
     ensures count { IfOk result (λ all. length all.items ≡ length words.now) }
     ensures each { IfOk result (λ all. (k : ℕ) (word : _) (number : T) → k < length words.now →
         T.from_str_gives (slice_index_or words.now k word).now (Ok (slice_index_or all.items k number))) }
 {
     words
         .iter()
-        .map(|word| -> Result<T, E> { Ok(word.parse::<T>()?) })
+        .map(|word| number_of::<T>(word))
         .try_collect(alloc)
+}
+
+/// A renaming's row that begins with these numbers: each place past them stands for itself.
+pub fn renaming_of(mut numbers: Vec<u8>) -> Result<Vec<u8>, AllocError>
+    ensures { IfOk result (λ row. row.items ≡ renaming_of numbers.items) }
+{
+    let places = LAST_PLACE + 1;
+    let named = u8::try_from(numbers.len()).unwrap_or(places);
+    numbers.extend(named..places)?;
+    Ok(numbers)
 }
 
 /// The bytes that hexadecimal digits write down; letters among them stand in lower case.
