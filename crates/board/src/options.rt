@@ -10,7 +10,7 @@ Carries out a script of takes and puts on a pile of boards, and prints each answ
 docs/FORMATS.md says what a script may have.";
 
 const MORE: &str = "\
-Example: zaldrum board two_layers.script
+Example: zaldrum board examples/pile.board
 
 Exit status: 0 where the script was read, whatever its lines were answered; 1 if it could not be read; 2 if the
 command line is not understood.";

@@ -10,7 +10,7 @@ Makes the calls of a day on one board, hands its counters over to a second board
 markings. docs/FORMATS.md says what a hand-over file has.";
 
 const MORE: &str = "\
-Example: zaldrum handover detour.day
+Example: zaldrum handover examples/day.handover
 
 Exit status: 0 if the markings agree after an accepted hand-over; 1 if they differ, if the hand-over is refused, or if
 the file is at fault or could not be read; 2 if the command line is not understood.";

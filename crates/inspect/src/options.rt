@@ -11,7 +11,7 @@ Shows what net files mean, each step with its input place and its yields, or why
 Where several files are named, a line with its name stands above each.";
 
 const MORE: &str = "\
-Example: zaldrum inspect grid lock.grid
+Example: zaldrum inspect grid examples/detour.grid
 
 Exit status: 0 if each file is accepted; 1 if one is refused or could not be read, and the others are shown all the
 same; 2 if the command line is not understood.";

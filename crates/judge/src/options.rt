@@ -10,7 +10,7 @@ Judges exam sheets: says of each the first order of steps that does its tally, o
 Each file gets a line NAME: VERDICT, in the sequence of the names; standard input alone gets the verdict alone.";
 
 const MORE: &str = "\
-Example: zaldrum judge sheets/*.sheet
+Example: zaldrum judge examples/*.sheet
 
 Exit status: 0 whatever the verdicts are; 1 if a file could not be read, and the others are judged all the same;
 2 if the command line is not understood.";

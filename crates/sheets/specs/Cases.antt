@@ -163,6 +163,42 @@ abbrev pub a_tally_of_65536 : Case
 a_tally_of_65536 = says (yields_250_and_1 (0 ∷ 1 ∷ 255 ∷ 255 ∷ []) (0 ∷ 0 ∷ 0 ∷ 0 ∷ []))
     (codes "no 8 0")
 
+-- ARCS AS THEY ARE LINKED
+
+-- two numbers in four bytes each
+abbrev pub at_two : ℕ → ℕ → List ℕ
+at_two a b = 0 ∷ 0 ∷ 0 ∷ a ∷ 0 ∷ 0 ∷ 0 ∷ b ∷ []
+
+-- arc 1 leads to arc 3 and passes over arc 2, where the other step begins
+abbrev pub an_arc_that_passes_over_one : Case
+an_arc_that_passes_over_one =
+    says
+    (asks
+    ((2 ∷ 2 ∷ 0 ∷ 3 ∷ []) ++ ((0 ∷ 0 ∷ 1 ∷ []) ++ ((0 ∷ 0 ∷ 2 ∷ [])
+    ++ ((0 ∷ 1 ∷ 0 ∷ 3 ∷ []) ++ ((0 ∷ 2 ∷ 0 ∷ 0 ∷ []) ++ (1 ∷ 1 ∷ 0 ∷ 0 ∷ []))))))
+    (at_two 1 0) (0 ∷ 1 ∷ 0 ∷ 0 ∷ []) 0 (at_two 1 1))
+    (codes "ok 0")
+
+-- arc 2 is on no chain, and has no weight
+abbrev pub an_unfit_arc_on_no_chain : Case
+an_unfit_arc_on_no_chain =
+    says
+    (asks
+    ((1 ∷ 1 ∷ 0 ∷ 2 ∷ []) ++ ((0 ∷ 0 ∷ 1 ∷ [])
+    ++ ((0 ∷ 1 ∷ 0 ∷ 0 ∷ []) ++ (0 ∷ 0 ∷ 0 ∷ 0 ∷ []))))
+    (0 ∷ 0 ∷ 0 ∷ 1 ∷ []) (0 ∷ 1 ∷ []) 0 (0 ∷ 0 ∷ 0 ∷ 1 ∷ []))
+    (codes "no 5 2")
+
+-- arc 2 leads back to arc 1, though to a higher place
+abbrev pub an_arc_that_leads_back : Case
+an_arc_that_leads_back =
+    says
+    (asks
+    ((2 ∷ 1 ∷ 0 ∷ 2 ∷ []) ++ ((0 ∷ 0 ∷ 2 ∷ [])
+    ++ ((1 ∷ 1 ∷ 0 ∷ 0 ∷ []) ++ (0 ∷ 1 ∷ 0 ∷ 1 ∷ []))))
+    (at_two 1 0) (0 ∷ 1 ∷ []) 0 (at_two 1 1))
+    (codes "no 5 2")
+
 -- TWO AT FAULT: THE EARLIER CHECK DECIDES
 
 abbrev pub an_unknown_kind_and_a_start_past_the_law : Case
@@ -209,6 +245,9 @@ cases =
     ∷ a_tally_of_65535
     ∷ a_tally_of_65536
     ∷ an_unknown_kind_and_a_start_past_the_law
+    ∷ an_arc_that_passes_over_one
+    ∷ an_unfit_arc_on_no_chain
+    ∷ an_arc_that_leads_back
     ∷ a_start_past_the_law_and_too_many_steps
     ∷ []
 
