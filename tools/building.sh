@@ -83,12 +83,14 @@ keep() {
         rm -f -- "$built/$1.$$"
 } 2>/dev/null
 
-# Prints the checksum of the sources in a folder, of what crates.txt says of them, and of the kit.
+# Prints the checksum of the sources in a folder, of what crates.txt says of them, and of the kit. It fails where not
+# each source has its sum: a sum that leaves one out would be that of other sources too.
 sum_in() {
-    {
-        printf '%s\n' "$kit_now" "$handles" "$lines"
-        sources_in "$1" -print0 | LC_ALL=C sort -z | (cd -- "$1/crates" && xargs -0 sha256sum)
-    } | sha256sum | cut -c -32
+    sums=$(sources_in "$1" -print0 | LC_ALL=C sort -z | (cd -- "$1/crates" && xargs -0 sha256sum)) &&
+        number=$(sources_in "$1" -printf x) && [ -n "$number" ] &&
+        [ "$(printf '%s\n' "$sums" | grep -cE '^\\?[0-9a-f]{64} ')" -eq ${#number} ] &&
+        whole=$(printf '%s\n' "$kit_now" "$handles" "$lines" "$sums" | sha256sum) && [ ${#whole} -ge 64 ] &&
+        printf '%.32s\n' "$whole"
 }
 
 # Sets program to where it is when it is built of the present sources, and says whether it is there. Their contents
@@ -106,7 +108,7 @@ $files"
     [ ! -f "$built/$1.seen" ] || read -r sum <"$built/$1.seen"
     if [ -z "$sum" ] || [ "$sum
 $files" != "$(cat -- "$built/$1.seen")" ]; then
-        sum=$(sum_in "$here")
+        sum=$(sum_in "$here") || fail "no checksum can be made of the sources of $1"
         [ -n "$(sources_in "$here" -newerct '2 seconds ago' -print -quit)" ] || keep "$1.seen" "$sum
 $files"
     fi
@@ -195,7 +197,7 @@ build() {
     for one; do
         [ -x "$room/repo/crates/$one/out/$one" ] || fail "the toolchain passed $one, but left no program of it"
         stand_on "$one"
-        sum=$(sum_in "$room/repo")
+        sum=$(sum_in "$room/repo") || fail "no checksum can be made of the sources of $one"
         place "$one" "$sum" "$room/repo/crates/$one/out/$one"
         program=$built/$one-$sum/$one
     done
@@ -235,7 +237,7 @@ run_install() {
 sums() {
     for one in $programs; do
         stand_on "$one"
-        sum_in "$here"
+        sum_in "$here" || fail "no checksum can be made of the sources of $one"
     done
 }
 
