@@ -78,11 +78,14 @@ fn fit(slots: &[u8; SLOTS]) -> bool
     slots.iter().all(|held| *held <= HIGHEST)
 }
 
-// how many slots hold the number; at most all of them, so the cast keeps it
+// how many slots hold the number; 16 bits keep all of them, and so narrow a sum is the sooner made
 fn count_of(slots: &[u8; SLOTS], held: u8) -> u32
     ensures { result ≡ occurs held slots.now }
 {
-    slots.iter().filter(|slot| **slot == held).count() as u32
+    let number = slots.iter().fold(0u16, |number, slot| {
+        number.wrapping_add(u16::from(*slot == held))
+    });
+    u32::from(number)
 }
 
 // the lowest slot that holds the number
