@@ -1,7 +1,10 @@
 //! The desk: what was last shown of the board, and what is printed of a line.
+use crate::script;
+use crate::script::Asked;
 use board_calls::{Answer, Call, perform};
 use boards::{Board, PLACES, all_counts};
 use command_line::{Failure, one_line};
+use std::alloc::AllocError;
 use std::io;
 
 /// The longest bar of a picture.
@@ -21,6 +24,11 @@ impl<'a> Desk<'a> {
             counts: [0; PLACES],
             spare: 0,
         }
+    }
+
+    /// What a line of the script asks for; nothing where it is not understood.
+    pub(crate) fn asked_by(&self, line: &str) -> Result<Option<Asked>, AllocError> {
+        script::asked_by(self.rt.alloc(), line)
     }
 
     /// Prints a line of the script.

@@ -1,19 +1,23 @@
 //! The lines on a pile: layers come over its board, up to four.
+ghost use Rattle.std.specs.Prelude.{◌≤◌, IfOk, length};
+
 use crate::desk::Desk;
-use crate::script::{Asked, Line};
+use crate::script::{Asked, Load};
 use board_calls::Answer;
 use boards::Board;
 use command_line::Failure;
 use layers::{Allowance, Renaming};
 use std::marker::PhantomData;
 
-/// What a pile makes of the lines that are left, by how many layers it still takes.
+/// What a pile makes of the lines that are left, by how many layers it still takes. A line that loads a board ends
+/// the pile: what it loads, and how many lines are left from there on; none where no line does.
 pub(crate) trait OnPile {
     fn run<B: Board + Drop>(
         desk: &mut Desk<'_>,
-        lines: &[Line<'_>],
+        lines: &[&str],
         board: B,
-    ) -> Result<(), Failure>;
+    ) -> Result<(Option<Load>, usize), Failure>
+        ensures { IfOk result (λ next. next.1 ≤ length lines.now) };
 }
 
 /// A pile that takes no more layers.
@@ -25,44 +29,45 @@ pub(crate) struct Under<Above>(PhantomData<Above>);
 impl OnPile for Full {
     fn run<B: Board + Drop>(
         desk: &mut Desk<'_>,
-        lines: &[Line<'_>],
+        lines: &[&str],
         mut board: B,
-    ) -> Result<(), Failure> {
-        for line in lines {
-            match &line.asked {
-                Some(Asked::Call(call)) => desk.call(line.code, &mut board, *call)?,
-                Some(_) => desk.say(line.code, "the pile has four layers already")?,
-                None => desk.say(line.code, "not understood")?,
+    ) -> Result<(Option<Load>, usize), Failure> {
+        for (i, line) in lines.iter().enumerate() {
+            match desk.asked_by(line)? {
+                Some(Asked::Call(call)) => desk.call(line, &mut board, call)?,
+                Some(Asked::Load(load)) => return Ok((Some(load), lines.len() - i)),
+                Some(_) => desk.say(line, "the pile has four layers already")?,
+                None => desk.say(line, "not understood")?,
             }
         }
-        Ok(())
+        Ok((None, 0))
     }
 }
 
 impl<Above: OnPile> OnPile for Under<Above> {
     fn run<B: Board + Drop>(
         desk: &mut Desk<'_>,
-        lines: &[Line<'_>],
+        lines: &[&str],
         mut board: B,
-    ) -> Result<(), Failure> {
-        let mut left = lines.iter();
-        for line in left.by_ref() {
-            match &line.asked {
-                Some(Asked::Call(call)) => desk.call(line.code, &mut board, *call)?,
+    ) -> Result<(Option<Load>, usize), Failure> {
+        for (i, line) in lines.iter().enumerate() {
+            match desk.asked_by(line)? {
+                Some(Asked::Call(call)) => desk.call(line, &mut board, call)?,
+                Some(Asked::Load(load)) => return Ok((Some(load), lines.len() - i)),
                 Some(Asked::Rename(row)) => {
                     let mut layer = Renaming::new(board);
                     let done = layer.load(row.as_slice());
-                    desk.show(line.code, &layer, Answer::from(done))?;
-                    return Above::run(desk, left.as_slice(), layer);
+                    desk.show(line, &layer, Answer::from(done))?;
+                    return Above::run(desk, &lines[i + 1..], layer);
                 }
                 Some(Asked::Allow(limit)) => {
-                    let layer = Allowance::new(board, *limit);
-                    desk.show(line.code, &layer, Answer::Accepted)?;
-                    return Above::run(desk, left.as_slice(), layer);
+                    let layer = Allowance::new(board, limit);
+                    desk.show(line, &layer, Answer::Accepted)?;
+                    return Above::run(desk, &lines[i + 1..], layer);
                 }
-                None => desk.say(line.code, "not understood")?,
+                None => desk.say(line, "not understood")?,
             }
         }
-        Ok(())
+        Ok((None, 0))
     }
 }
