@@ -39,7 +39,7 @@ fn compare<'a>(
 ) -> anyhow::Result<Option<usize>>
     ensures { IfOk result (λ left. IfSome left (λ left. left ≤ length lines.now)) }
 {
-    let left = match new.asked {
+    let left = match new.asked() {
         "new counts" => on_board(table, new, lines, CountBoard::new())?,
         "new slots" => on_board(table, new, lines, SlotBoard::new())?,
         _ => return Ok(None),
@@ -62,7 +62,7 @@ fn on_board<'a, B: Base + Drop>(
     table.compare(new, &board, Answer::Accepted)?;
     let mut left = lines;
     while let [line, rest @ ..] = left {
-        let Some(asked) = read(table.alloc(), line.asked)? else {
+        let Some(asked) = read(table.alloc(), line.asked())? else {
             break;
         };
         let Some(done) = board.load_row(&asked) else {

@@ -37,7 +37,7 @@ fn calls_on<'a, B: Board>(
 {
     let mut left = lines;
     while let [line, rest @ ..] = left {
-        match read(table.alloc(), line.asked)? {
+        match read(table.alloc(), line.asked())? {
             Some(Asked::Call(call)) => {
                 let answer = perform(board, call);
                 table.compare(line, board, answer)?;

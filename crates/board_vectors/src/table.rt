@@ -34,9 +34,9 @@ impl<'a> Table<'a> {
         state.add(board.spare());
         let state = state.value;
         let here = format!(in self.alloc(); "{answer} {state}")?;
-        if !self.comparison.compare(line.expected, here.as_str()) {
+        if !self.comparison.compare(line.expected(), here.as_str()) {
             let text = line.text;
-            let asked = line.asked;
+            let asked = line.asked();
             println!(self.rt; "the table has {text}\nbut here it is {asked} = {here}")?;
         }
         Ok(())

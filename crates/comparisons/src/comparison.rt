@@ -1,29 +1,44 @@
 //! The lines of a table, and how many of their answers agree.
 ghost use Rattle.std.specs.Prelude.{◌≡◌, ◌≢◌, ◌<◌, ◌≤◌, ◌+◌, ◌-◌, Ok, None, IfOk};
-ghost use Rattle.std.specs.Prelude.{IfSome, min, length, drop, [], ◌∷◌, true, false};
+ghost use Rattle.std.specs.Prelude.{IfSome, min, length, drop, [], ◌∷◌, true, false, ℕ, List};
 ghost use Rattle.comparisons.specs.Counted.{one_more};
 ghost use Rattle.comparisons.specs.Sides.{HasSides};
 
-/// A line of a table: all of it, what it asks for, and the answer that stands in it.
+/// A line of a table.
 #[derive(Clone, Copy)]
 pub struct Line<'a> {
     pub text: &'a str,
-    pub asked: &'a str,
-    pub expected: &'a str,
 }
 
 impl<'a> From<&'a str> for Line<'a> {
-    ghost from_gives = { λ text line. (line.text.now ≡ text.now)
-        × HasSides text.now line.asked.now line.expected.now };
+    ghost from_gives = { λ text line. line.text.now ≡ text.now };
 
-    /// The two sides of the first ` = `; no answer where there is none.
     fn from(text: &'a str) -> Line<'a> {
-        let (asked, expected) = text.split_once(" = ").unwrap_or((text, ""));
-        Line {
-            text,
-            asked,
-            expected,
-        }
+        Line { text }
+    }
+}
+
+// Both sides are found when they are asked for, so that a line of a long table takes no more than its text.
+impl<'a> Line<'a> {
+    /// The two sides of the first ` = `; no answer where there is none.
+    fn sides(self) -> (&'a str, &'a str)
+        ensures { HasSides self.entry.text.now result.0.now result.1.now }
+    {
+        self.text.split_once(" = ").unwrap_or((self.text, ""))
+    }
+
+    /// What the line asks for.
+    pub fn asked(self) -> &'a str
+        ensures { (expected : List ℕ) × HasSides self.entry.text.now result.now expected }
+    {
+        self.sides().0
+    }
+
+    /// The answer that stands in the line.
+    pub fn expected(self) -> &'a str
+        ensures { (asked : List ℕ) × HasSides self.entry.text.now asked result.now }
+    {
+        self.sides().1
     }
 }
 

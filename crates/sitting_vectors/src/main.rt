@@ -43,7 +43,7 @@ fn compare<'a>(
 ) -> anyhow::Result<Option<usize>>
     ensures { IfOk result (λ left. IfSome left (λ left. left ≤ length lines.now)) }
 {
-    let left = match read(table.alloc(), line.asked)? {
+    let left = match read(table.alloc(), line.asked())? {
         Some(Asked::Net(Make::Grid, file)) => {
             on_file::<GridNet>(table, line, lines, file.as_slice())?
         }
@@ -90,7 +90,7 @@ fn on_net<'a, N: Net + Drop>(
     let [load, left @ ..] = lines else {
         bail!("a net without a board");
     };
-    match read(table.alloc(), load.asked)? {
+    match read(table.alloc(), load.asked())? {
         Some(Asked::Counts(row, spare)) => {
             let mut board = CountBoard::new();
             let done = board.load(row.as_slice(), spare);

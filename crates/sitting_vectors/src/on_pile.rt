@@ -50,7 +50,7 @@ impl<Above: OnPile> OnPile for Under<Above> {
         let [line, left @ ..] = lines else {
             return sit(table, lines, net, board);
         };
-        match read(table.alloc(), line.asked)? {
+        match read(table.alloc(), line.asked())? {
             Some(Asked::Rename(row)) => {
                 let mut layer = Renaming::new(board);
                 let done = layer.load(row.as_slice());

@@ -27,7 +27,7 @@ pub(crate) fn sit<'a, N: Net + Drop, B: Board + Drop>(
     table.totals.begin();
     table.compare_state(&begin, Answer::Accepted, digest_of(&sitting))?;
     while let [line, rest @ ..] = left {
-        match read(table.alloc(), line.asked)? {
+        match read(table.alloc(), line.asked())? {
             Some(Asked::Fire(step)) => fire(table, line, &mut sitting, step)?,
             Some(Asked::Resume(request)) => resume(table, line, &mut sitting, &request)?,
             Some(Asked::Survey(request)) => survey(table, line, &sitting, &request)?,

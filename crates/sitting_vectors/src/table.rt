@@ -31,7 +31,7 @@ impl<'a> Table<'a> {
     /// Compares the answer in a line with the one here.
     pub(crate) fn compare(&mut self, line: &Line<'_>, answer: Answer) -> anyhow::Result<()> {
         let here = answer.to_string(self.alloc())?;
-        Ok(self.compare_text(line.expected, here.as_str())?)
+        Ok(self.compare_text(line.expected(), here.as_str())?)
     }
 
     /// Compares it with an answer and a digest of everything after it.
@@ -43,7 +43,7 @@ impl<'a> Table<'a> {
     ) -> anyhow::Result<()> {
         let state = state.value;
         let here = format!(in self.alloc(); "{answer} {state}")?;
-        Ok(self.compare_text(line.expected, here.as_str())?)
+        Ok(self.compare_text(line.expected(), here.as_str())?)
     }
 
     fn compare_text(&mut self, expected: &str, here: &str) -> io::Result<()> {
