@@ -20,6 +20,9 @@ use std::iter::repeat_n;
 use std::str::FromStr;
 use thiserror::Error;
 
+/// What is said of a letter among digits.
+const NO_DIGIT: &str = "not a hexadecimal digit";
+
 /// Why words are not read.
 #[derive(Debug, Drop, Error)]
 pub enum Fault {
@@ -101,9 +104,16 @@ pub fn bytes_of(alloc: Global, digits: &str) -> anyhow::Result<Vec<u8>>
     ensures bytes { IfOk result (λ bytes. decode_of digits.now ≡ Ok bytes.items) }
     ensures lower { IfOk result (λ bytes. digits.now ≡ encode_lower bytes.items) }
 {
+    let pairs = &digits.as_bytes()[..digits.len() / 2 * 2];
+    let are_digits = pairs
+        .iter()
+        .all(|digit| matches!(*digit, b'0'..=b'9' | b'a'..=b'f'));
+    ensure!(are_digits, NO_DIGIT);
+    ensure!(pairs.len() == digits.len(), "an odd number of digits");
     let bytes = hex::decode(alloc, digits)?;
     let lower = hex::encode(alloc, bytes.as_slice())?;
-    ensure!(lower.as_str() == digits, "a digit in upper case");
+    // never otherwise, as all of them are digits; `lower` says so
+    ensure!(lower.as_str() == digits, NO_DIGIT);
     Ok(bytes)
 }
 
