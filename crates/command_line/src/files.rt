@@ -156,8 +156,9 @@ impl Source {
         let bytes = self
             .read_whole(rt, program, most)
             .map_err(|unread| self.fault(alloc, unread))?;
-        let text = text_of(bytes.as_slice()).map_err(|unread| self.fault(alloc, unread))?;
-        Ok(String::from_str(alloc, text)?)
+        let _ = text_of(bytes.as_slice()).map_err(|unread| self.fault(alloc, unread))?;
+        // what was read becomes the text, as a copy would take as much again
+        String::from_utf8(bytes).map_err(|error| self.fault(alloc, error))
     }
 }
 

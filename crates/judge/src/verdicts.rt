@@ -1,7 +1,8 @@
 //! What is said of each sheet.
 use crate::options::PROGRAM;
-use command_line::{Failure, Source, Unread, say};
+use command_line::{Failure, Opened, Source, Unread, say};
 use sheets::line_of;
+use std::fs;
 use std::io::{BufWriter, Write};
 
 /// How much of a sheet is read: a byte more than any sheet has. A longer one is refused for its length where its head
@@ -34,8 +35,12 @@ impl<'a, W: Write + Drop> Verdicts<'a, W> {
         }
     }
 
-    /// Judges a file, and prints its name and the verdict.
+    /// Judges a file, and prints its name and the verdict. Where it may have to wait for the file, the verdicts so far
+    /// are written before.
     pub(crate) fn judge(&mut self, source: &Source) -> Result<(), Failure> {
+        if self.may_wait(source) {
+            self.out.flush()?;
+        }
         match source.read(self.rt, PROGRAM, SHEET_BYTES) {
             Ok(sheet) => {
                 let name = source.shown.as_str();
@@ -43,6 +48,16 @@ impl<'a, W: Write + Drop> Verdicts<'a, W> {
                 self.print(sheet.as_slice())
             }
             Err(unread) => self.say_unread(source, &unread),
+        }
+    }
+
+    /// Whether it may have to be waited for: for all but a file on a disk.
+    fn may_wait(&self, source: &Source) -> bool {
+        match &source.opened {
+            Opened::File(name) => {
+                !fs::metadata(self.rt, name.as_str()).is_ok_and(|file| file.is_file())
+            }
+            _ => true,
         }
     }
 
