@@ -6,3 +6,4 @@ mod schedule;
 mod takers;
 
 pub use order::write_first_order;
+pub use schedule::Schedule;

@@ -6,3 +6,4 @@ mod sitting;
 mod tally;
 
 pub use sitting::{DONE_COUNTS, Sitting};
+pub use tally::fire_tally;

@@ -16,7 +16,7 @@ use tallies::{Asked, Flow, check_sizes};
 
 /// Does the tally on the board by its first order, notes each step fired in the memory, and says how many there were.
 /// `done` has how often each step was done before. Refused as a resume is, with board and memory as they were.
-pub(crate) fn fire_tally<N: Net, B: Board>(
+pub fn fire_tally<N: Net, B: Board>(
     net: &N,
     board: &mut B,
     done: &[u16],

@@ -2,12 +2,13 @@
 ghost use Rattle.std.specs.Prelude.{◌≡◌, ℕ, ◌+◌, ◌^◌, ◌<◌, pos, ◌-ℤ◌, neg_ℤ, ◌<ℤ◌};
 ghost use Rattle.answers.specs.Answers.{is_missed};
 ghost use Rattle.answers.specs.Kinds.{target_with};
+ghost use Rattle.answers.specs.Targets.{lent_target};
 ghost use Rattle.theory.specs.Rows.{at};
 ghost use Rattle.theory.specs.Tallies.{spent, gained, final_number};
 ghost use Rattle.theory.specs.Tests.{least, is_short};
 
 use crate::flow::Flow;
-use answers::Kind;
+use answers::{Kind, Target};
 use nets::Net;
 use sets::least_below;
 
@@ -79,6 +80,20 @@ impl<'a, N: Net> Asked<'a, N> {
         }
     }
 
+    /// The same for a target of its own, of any byte: one that is no kind's is compared as at least is.
+    pub fn is_missed_by(&self, target: Target<'_>, place: u8) -> bool
+        ensures { let flow = self.now.flow.now in let net = (N.net flow.net.now) in
+            result ≡ is_missed net (at self.now.counts.now) (at flow.tally.now) (lent_target target.entry) place }
+    {
+        let asked = Asked {
+            flow: self.flow,
+            counts: self.counts,
+            target: target.numbers,
+            kind: Kind::compared_by(target.kind),
+        };
+        asked.is_missed(place)
+    }
+
     /// By how many blocks the tally overshoots the target at the place; below 0 where it falls behind.
     pub fn missed_by(&self, place: u8) -> i64
         ensures { let flow = self.now.flow.now in let net = (N.net flow.net.now) in
@@ -107,5 +122,15 @@ impl<'a, N: Net> Asked<'a, N> {
     {
         let places = u16::from(self.flow.net.places());
         least_below(places, |place| self.is_missed(place as u8)).map(|place| place as u8)
+    }
+
+    /// The same for a target of its own, of any byte.
+    pub fn least_missed_by(&self, target: Target<'_>) -> Option<u8>
+        ensures { let flow = self.now.flow.now in let net = (N.net flow.net.now) in
+            let target = lent_target target.entry in
+            result ≡ least (is_missed net (at self.now.counts.now) (at flow.tally.now) target) net.places }
+    {
+        let places = u16::from(self.flow.net.places());
+        least_below(places, |place| self.is_missed_by(target, place as u8)).map(|place| place as u8)
     }
 }

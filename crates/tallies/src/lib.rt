@@ -10,9 +10,10 @@ mod flow;
 mod sums;
 
 pub use asked::{done_total, steps_asked, yields_of};
-pub use checks::{check_sizes, check_survey};
+pub use checks::{check_rows, check_sizes, check_survey};
 pub use finals::Asked;
 pub use flow::Flow;
+pub use sums::sum_below;
 
 #[cfg(test)]
 mod tests;
